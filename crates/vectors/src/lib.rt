@@ -1,0 +1,2 @@
+// Vectors of f64, the stencils on them, and exp and tan.
+pub mod answer;

@@ -4,3 +4,7 @@ pub mod Grid
 pub mod GridLaws
 pub mod Memory
 pub mod MemoryLaws
+pub mod Stencil
+pub mod Moments
+pub mod RowSums
+pub mod StencilLaws

@@ -1,5 +1,7 @@
 pub mod Answer
 pub mod Constants
+pub mod Fault
+pub mod FaultLaws
 pub mod Grid
 pub mod GridLaws
 pub mod Memory
@@ -7,4 +9,5 @@ pub mod MemoryLaws
 pub mod Stencil
 pub mod Moments
 pub mod RowSums
+pub mod RowLaws
 pub mod StencilLaws

@@ -1,0 +1,52 @@
+-- What an answer says of the level and the lengths.
+use mathlib.Core.Path.{_≡_, refl, sym, ap, _∙_}
+use mathlib.Core.Bool.{Bool, true, false, cond, _&&_, true≢false}
+use Prim.Native.Nat.{ℕ}
+use native.Mathlib.Omega.{arith}
+use lib.Dec.{eqb}
+use borrow.Author.Tests.{eqb-true}
+use Rattle.vectors.specs.Grid.{levelInRange, pointsOf}
+use Rattle.vectors.specs.GridLaws.{Level, level-of, in-range}
+use Rattle.vectors.specs.Fault.{faultOf, bothFit}
+
+pub fault-level : (level : ℕ) (fits : Bool) → levelInRange level ≡ false → 5 ≡ faultOf level fits
+unfolding faultOf
+fault-level level fits e = ap (λ b. cond b (cond fits 0 11) 5) (sym e)
+
+pub fault-length : (level : ℕ) (fits : Bool) → Level level → fits ≡ false → 11 ≡ faultOf level fits
+unfolding faultOf
+fault-length level fits l e = rw (in-range l, e)
+
+pub fault-none : (level : ℕ) (fits : Bool) → Level level → fits ≡ true → 0 ≡ faultOf level fits
+unfolding faultOf
+fault-none level fits l e = rw (in-range l, e)
+
+-- a call that is not refused
+pub record Accepted (level : ℕ) (fits : Bool) : Type 0 where
+  pub ranged : Level level
+  pub fitting : fits ≡ true
+
+pub accepted : (level : ℕ) (fits : Bool) → 0 ≡ faultOf level fits → Accepted level fits
+unfolding faultOf
+accepted level fits e = go (levelInRange level) fits refl refl e
+  where
+    go : (a b : Bool) → levelInRange level ≡ a → fits ≡ b → _≡_ {A = ℕ} 0 (cond a (cond b 0 11) 5) → Accepted level fits
+    go true true p q e = record { ranged = level-of level p; fitting = q }
+    go true false p q e = absurd (omega arith)
+    go false b p q e = absurd (omega arith)
+
+pub and-true : (x y : Bool) → (x && y) ≡ true → (x ≡ true) × (y ≡ true)
+and-true true y e = (refl, e)
+and-true false y e = absurd (true≢false (sym e))
+
+-- two memories of one number for each point
+pub record BothFit (level a b : ℕ) : Type 0 where
+  pub ranged : Level level
+  pub first : a ≡ pointsOf level
+  pub second : b ≡ pointsOf level
+
+pub both-fit : (level a b : ℕ) → 0 ≡ faultOf level (bothFit level a b) → BothFit level a b
+both-fit level a b e =
+    let g = accepted level (bothFit level a b) e in
+    let h = and-true (eqb a (pointsOf level)) (eqb b (pointsOf level)) (g .fitting) in
+    record { ranged = g .ranged; first = eqb-true a (pointsOf level) (h .0); second = eqb-true b (pointsOf level) (h .1) }

@@ -1,3 +1,9 @@
 pub mod Answer
 pub mod Memory
 pub mod MemoryLaws
+pub mod Position
+pub mod PositionLaws
+pub mod Powers
+pub mod Sign
+pub mod TotalOrder
+pub mod TotalOrderLaws

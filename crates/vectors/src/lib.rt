@@ -1,2 +1,3 @@
 // Vectors of f64, the stencils on them, and exp and tan.
 pub mod answer;
+pub mod field_vector;

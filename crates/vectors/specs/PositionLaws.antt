@@ -1,12 +1,14 @@
 -- What `firstAtOrBelow` answers, element by element.
-use mathlib.Core.Path.{_≡_, refl, subst}
-use mathlib.Core.Bool.{Bool, true, false, cond}
+use mathlib.Core.Path.{_≡_, refl, sym, ap, subst, _∙_}
+use mathlib.Core.Bool.{Bool, true, false, cond, true≢false}
+use mathlib.Core.Logic.{inl, inr}
 use mathlib.Core.List.{List, [], _∷_}
 use mathlib.Core.Option.{Option, none, some, Option·map, Option·some-injective, Option·some-ne-none, Option·none-ne-some}
 use Prim.Native.Nat.{ℕ, zero, suc, _<_, suc-le-suc}
-use native.Mathlib.Nat.{le-of-suc-le-suc, not-suc-le-zero, zero-lt-suc}
+use native.Mathlib.Nat.{le-antisymm, le-of-suc-le-suc, not-suc-le-zero, zero-lt-suc}
 use lib.ListN.{length, getD}
 use lib.Ieee.{Float, nan, le}
+use Rattle.vectors.specs.MemoryLaws.{side}
 use Rattle.vectors.specs.Position.{firstAtOrBelow}
 
 -- an index in range, whose value is at or below the bound, and no earlier value is
@@ -48,3 +50,27 @@ first-none bound (x ∷ xs) e j l = go (le x bound) (firstAtOrBelow bound xs) re
     go false (some k) h rest e j l = absurd (Option·some-ne-none (suc k) e)
     go false none h rest e zero l = h
     go false none h rest e (suc j) l = rest refl j (le-of-suc-le-suc l)
+
+-- the other way round
+pub first-is-some : (bound : Float) (xs : List Float) (i : ℕ) → First bound xs i → firstAtOrBelow bound xs ≡ some i
+first-is-some bound xs i f = go (firstAtOrBelow bound xs) refl
+  where
+    same : (k : ℕ) → First bound xs k → k ≡ i
+    same k g = elim (side k i) [
+      | inl p ↦ absurd (true≢false (sym (g .holds) ∙ f .earlier k p))
+      | inr p ↦ elim (side i k) [
+        | inl q ↦ absurd (true≢false (sym (f .holds) ∙ g .earlier i q))
+        | inr q ↦ le-antisymm q p
+      ]
+    ]
+
+    go : (o : Option ℕ) → firstAtOrBelow bound xs ≡ o → o ≡ some i
+    go none e = absurd (true≢false (sym (f .holds) ∙ first-none bound xs e i (f .within)))
+    go (some k) e = ap {B = Option ℕ} some (same k (first-some bound xs k e))
+
+pub first-is-none : (bound : Float) (xs : List Float) → ((j : ℕ) → j < length xs → le (getD xs j nan) bound ≡ false) → firstAtOrBelow bound xs ≡ none
+first-is-none bound xs h = go (firstAtOrBelow bound xs) refl
+  where
+    go : (o : Option ℕ) → firstAtOrBelow bound xs ≡ o → o ≡ none
+    go none e = refl
+    go (some k) e = let g = first-some bound xs k e in absurd (true≢false (sym (g .holds) ∙ h k (g .within)))

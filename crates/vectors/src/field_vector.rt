@@ -5,12 +5,14 @@ ghost use Rattle.vectors.specs.Sign.{signOf};
 ghost use Rattle.vectors.specs.TotalOrder.{lesserOf, minimumOf};
 ghost use Rattle.vectors.specs.Position.{positionOf, firstAtOrBelow};
 
+// x².
 pub fn square(x: f64) -> f64
     ensures { λ r. ⌜ r ≡ squareOf x ⌝ }
 {
     x * x
 }
 
+// x⁴, as the square of x².
 pub fn fourth_power(x: f64) -> f64
     ensures { λ r. ⌜ r ≡ fourthPowerOf x ⌝ }
 {
@@ -18,6 +20,7 @@ pub fn fourth_power(x: f64) -> f64
     squared * squared
 }
 
+// x^-1.
 pub fn reciprocal(x: f64) -> f64
     ensures { λ r. ⌜ r ≡ reciprocalOf x ⌝ }
 {
@@ -37,7 +40,7 @@ pub fn min(values: &[f64]) -> f64
     least
 }
 
-// x where it is below m, else m. A comparison settles all but two zeros and a NaN.
+// x where it is below m, else m. Two comparisons settle it unless m is a zero or one of them is a NaN.
 fn lesser(m: f64, x: f64) -> f64
     ensures { λ r. ⌜ r ≡ lesserOf m x ⌝ }
 {
@@ -75,13 +78,13 @@ fn negative(x: f64) -> bool
     false
 }
 
-// Where in a vector a value stands.
+// The index of an element, or that there is none.
 pub enum Position {
     At(usize),
     Nowhere,
 }
 
-// The first index whose value is at most the bound.
+// The first index whose value is <= bound; no NaN is.
 pub fn position_at_or_below(values: &[f64], bound: f64) -> Position
     ensures { λ r. ⌜ positionOf r ≡ firstAtOrBelow bound (now (values .entry)) ⌝ }
 {

@@ -6,8 +6,14 @@ pub mod Grid
 pub mod GridLaws
 pub mod Memory
 pub mod MemoryLaws
-pub mod Stencil
 pub mod Moments
-pub mod RowSums
+pub mod Position
+pub mod PositionLaws
+pub mod Powers
 pub mod RowLaws
+pub mod RowSums
+pub mod Sign
+pub mod Stencil
 pub mod StencilLaws
+pub mod TotalOrder
+pub mod TotalOrderLaws

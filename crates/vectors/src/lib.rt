@@ -4,3 +4,4 @@ pub mod constants;
 pub mod diff;
 pub mod grid;
 pub mod rows;
+pub mod field_vector;

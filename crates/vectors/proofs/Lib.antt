@@ -1,1 +1,2 @@
+-- What the proofs of more than one module use.
 pub mod Floats

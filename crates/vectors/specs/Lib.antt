@@ -1,5 +1,8 @@
 pub mod Answer
 pub mod Constants
+pub mod Exp
+pub mod ExpLaws
+pub mod ExpTable
 pub mod Fault
 pub mod FaultLaws
 pub mod Grid
@@ -15,5 +18,6 @@ pub mod RowSums
 pub mod Sign
 pub mod Stencil
 pub mod StencilLaws
+pub mod Tan
 pub mod TotalOrder
 pub mod TotalOrderLaws

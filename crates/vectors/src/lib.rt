@@ -2,6 +2,8 @@
 pub mod answer;
 pub mod constants;
 pub mod diff;
+pub mod exp;
+pub mod field_vector;
 pub mod grid;
 pub mod rows;
-pub mod field_vector;
+pub mod tan;

@@ -1,0 +1,5 @@
+-- What the proofs of `exp` use, each file above the next.
+mod Binade
+mod Shift
+mod Range
+mod Cases

@@ -1,5 +1,6 @@
 pub mod Answer
 pub mod Constants
+pub mod Dissipation
 pub mod Exp
 pub mod ExpLaws
 pub mod ExpTable

@@ -5,6 +5,9 @@ use Prim.Native.Nat.{ℕ}
 use native.Mathlib.Omega.{arith}
 use lib.Dec.{eqb}
 use borrow.Author.Tests.{eqb-true}
+use Rattle.vectors.specs.declared.answer.Answer.{Answer}
+use Rattle.vectors.specs.declared.answer.Answer.the-variants.{Done}
+use Rattle.vectors.specs.Answer.{numberOf}
 use Rattle.vectors.specs.Grid.{levelInRange, pointsOf}
 use Rattle.vectors.specs.GridLaws.{Level, level-of, in-range}
 use Rattle.vectors.specs.Fault.{faultOf, bothFit}
@@ -45,8 +48,12 @@ pub record BothFit (level a b : ℕ) : Type 0 where
   pub first : a ≡ pointsOf level
   pub second : b ≡ pointsOf level
 
-pub both-fit : (level a b : ℕ) → 0 ≡ faultOf level (bothFit level a b) → BothFit level a b
-both-fit level a b e =
-    let g = accepted level (bothFit level a b) e in
+pub both-fit : (level a b : ℕ) {answer : Answer} → answer ≡ Done → numberOf answer ≡ faultOf level (bothFit level a b) → BothFit level a b
+both-fit level a b told e =
+    let g = accepted level (bothFit level a b) (sym (ap numberOf told) ∙ e) in
     let h = and-true (eqb a (pointsOf level)) (eqb b (pointsOf level)) (g .fitting) in
     record { ranged = g .ranged; first = eqb-true a (pointsOf level) (h .0); second = eqb-true b (pointsOf level) (h .1) }
+
+-- the number of an answer, where a `match` tells its case
+pub told-number : {answer case : Answer} {number : ℕ} → answer ≡ case → numberOf answer ≡ number → numberOf case ≡ number
+told-number told e = sym (ap numberOf told) ∙ e

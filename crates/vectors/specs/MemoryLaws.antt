@@ -306,6 +306,14 @@ module _ {A : Type 0} where
   pub length-put-is : (at n : ℕ) (ys xs : List A) → length ys ≡ n → at + n ≤ length xs → length (put at ys xs) ≡ length xs
   length-put-is at n ys xs e h = length-put at ys xs (omega arith)
 
+  -- two numbers stored at each end, and a loop between them
+  pub edged : {i : ℕ} {g : ℕ → A} {xs : List A} {a b y z : A} (n : ℕ) (d : A) (xs₀ : List A) → 4 ≤ n → length xs₀ ≡ n → i ≡ n - 2
+      → Grown 0 2 i (λ E. g) (set (set xs₀ 0 a) 1 b) xs → a ≡ g 0 → b ≡ g 1 → y ≡ g (n - 2) → z ≡ g (n - 1)
+      → set (set xs (n - 2) y) (n - 1) z ≡ tab n g
+  edged {i} {g} n d xs₀ h l e f p q r s =
+      let before = step (step (filled-none 0 g xs₀) refl p) refl q in
+      filled-all d (step-at (n - 1) (step-at (n - 2) (f .grow xs₀ before) r e (omega arith) (omega arith)) s refl (omega arith) (omega arith)) l
+
 -- a before b
 pub apart-left : (a m b n : ℕ) → a + m ≤ b → apart a m b n ≡ true
 unfolding apart

@@ -240,6 +240,26 @@ window-right n i a b c =
     let e : i - 3 ≡ i - 6 + 3 = omega arith in
     record { begins = omega arith; centred = simp (le-ltb i 3 (omega arith), le-ltb i (n - 3) b) e }
 
+-- the points from lo to below hi, whose seven numbers begin back before them
+pub record Windows (n lo hi back : ℕ) : Type 0 where
+  pub ordered : lo ≤ hi
+  pub inside : hi ≤ n
+  pub each : (i : ℕ) → lo ≤ i → i < hi → Window n i back
+
+pub windows-left : (n : ℕ) → 9 ≤ n → Windows n 0 3 0
+windows-left n h = record { ordered = omega arith; inside = omega arith; each = λ i a b. window-left n i b }
+
+pub windows-inner : (n : ℕ) → 9 ≤ n → Windows n 3 (n - 3) 3
+windows-inner n h = record { ordered = omega arith; inside = omega arith; each = λ i a b. window-inner n i a b }
+
+pub windows-right : (n : ℕ) → 9 ≤ n → Windows n (n - 3) n 6
+windows-right n h = record { ordered = omega arith; inside = omega arith; each = λ i a b. window-right n i h a b }
+
+-- the value that `set_left_neumann_bc` computes from the sum r of the row of four
+pub neumann-is : (xs : List Float) {r : Float} → r ≡ sum4 (pos 48 ∷ negsuc 35 ∷ pos 16 ∷ negsuc 2 ∷ []) xs 1 → div binary64 r twentyFive ≡ neumannOf xs
+unfolding neumannOf total plus productsFrom diffLeft0
+neumann-is xs e = rw (e, twentyFive-is)
+
 pub length-diffOf : (h : Float) (xs : List Float) → length (diffOf h xs) ≡ length xs
 unfolding diffOf
 length-diffOf h xs = length-tab (length xs) (diffAt h xs)

@@ -1,39 +1,17 @@
-// The finite differences of diff.rs.
+// The finite differences of diff.rs, over lent parts.
 ghost use mathlib.Core.Path.{_≡_};
 ghost use lib.ListN.{length};
-ghost use Prim.Native.Nat.{_+_, _<_, _≤_};
+ghost use Prim.Native.Nat.{_≤_};
 ghost use Rattle.vectors.specs.Answer.{numberOf, leftBy};
-ghost use Rattle.vectors.specs.Fault.{faultOf, bothFit};
+ghost use Rattle.vectors.specs.Fault.{faultOf, bothFit, shortOf};
 ghost use Rattle.vectors.specs.Grid.{spacingOf};
-ghost use Rattle.vectors.specs.Stencil.{diffOf};
+ghost use Rattle.vectors.specs.MemoryLaws.{Grown};
+ghost use Rattle.vectors.specs.Stencil.{diffOf, diff2Of, diff3At, diff3Of, withLeftNeumann};
+ghost use Rattle.vectors.specs.StencilLaws.{Windows};
 use crate::answer::Answer;
 use crate::answer::checked_both;
 use crate::grid::delta;
-use crate::rows::DIFF_INNER;
-use crate::rows::DIFF_LEFT0;
-use crate::rows::DIFF_LEFT1;
-use crate::rows::DIFF_RIGHT0;
-use crate::rows::DIFF_RIGHT1;
-use crate::rows::row5;
-use crate::rows::row5_hollow;
-
-// The first difference of vector at spacing h.
-fn diff_rows(h: f64, vector: &[f64], out: &mut [f64])
-    requires { ⌜ (5 ≤ length (now vector)) × (length (now out) ≡ length (now vector)) ⌝ }
-    ensures { λ _. ⌜ now (out .exit) ≡ diffOf h (now (vector .entry)) ⌝ }
-{
-    let n = vector.len();
-    let d = 12.0 * h;
-    out[0] = row5(DIFF_LEFT0, vector, 0) / d;
-    out[1] = row5(DIFF_LEFT1, vector, 0) / d;
-    let mut i = 2;
-    while i < n - 2 {
-        out[i] = row5_hollow(DIFF_INNER, vector, i - 2) / d;
-        i += 1;
-    }
-    out[n - 2] = row5(DIFF_RIGHT1, vector, n - 5) / d;
-    out[n - 1] = row5(DIFF_RIGHT0, vector, n - 5) / d;
-}
+use crate::rows;
 
 // The first derivative along r of a vector on the grid of this level.
 pub fn diff(level: u32, vector: &[f64], out: &mut [f64]) -> Answer
@@ -49,4 +27,107 @@ pub fn diff(level: u32, vector: &[f64], out: &mut [f64]) -> Answer
         Answer::RefusedLevel => Answer::RefusedLevel,
         Answer::RefusedLength => Answer::RefusedLength,
     }
+}
+
+fn diff_rows(h: f64, vector: &[f64], out: &mut [f64])
+    requires { ⌜ (5 ≤ length (now vector)) × (length (now out) ≡ length (now vector)) ⌝ }
+    ensures { λ _. ⌜ now (out .exit) ≡ diffOf h (now (vector .entry)) ⌝ }
+{
+    let n = vector.len();
+    let d = 12.0 * h;
+    out[0] = rows::row5(rows::DIFF_LEFT0, vector, 0) / d;
+    out[1] = rows::row5(rows::DIFF_LEFT1, vector, 0) / d;
+    let mut i = 2;
+    while i < n - 2 {
+        out[i] = rows::row5_hollow(rows::DIFF_INNER, vector, i - 2) / d;
+        i += 1;
+    }
+    out[n - 2] = rows::row5(rows::DIFF_RIGHT1, vector, n - 5) / d;
+    out[n - 1] = rows::row5(rows::DIFF_RIGHT0, vector, n - 5) / d;
+}
+
+// The second derivative along r.
+pub fn diff2(level: u32, vector: &[f64], out: &mut [f64]) -> Answer
+    ensures { λ r. ⌜ (numberOf r ≡ faultOf level (bothFit level (length (now (vector .entry))) (length (now (out .entry)))))
+        × (now (out .exit) ≡ leftBy r (diff2Of (spacingOf level) (now (vector .entry))) (now (out .entry))) ⌝ }
+{
+    let answer = checked_both(level, vector.len(), out.len());
+    match answer {
+        Answer::Done => {
+            diff2_rows(delta(level), vector, out);
+            Answer::Done
+        }
+        Answer::RefusedLevel => Answer::RefusedLevel,
+        Answer::RefusedLength => Answer::RefusedLength,
+    }
+}
+
+fn diff2_rows(h: f64, vector: &[f64], out: &mut [f64])
+    requires { ⌜ (6 ≤ length (now vector)) × (length (now out) ≡ length (now vector)) ⌝ }
+    ensures { λ _. ⌜ now (out .exit) ≡ diff2Of h (now (vector .entry)) ⌝ }
+{
+    let n = vector.len();
+    let d = 12.0 * (h * h);
+    out[0] = rows::row6(rows::DIFF2_EDGE0, vector, 0) / d;
+    out[1] = rows::row6(rows::DIFF2_EDGE1, vector, 0) / d;
+    let mut i = 2;
+    while i < n - 2 {
+        out[i] = rows::row5(rows::DIFF2_INNER, vector, i - 2) / d;
+        i += 1;
+    }
+    out[n - 2] = rows::row6_descending(rows::DIFF2_EDGE1, vector, n - 6) / d;
+    out[n - 1] = rows::row6_descending(rows::DIFF2_EDGE0, vector, n - 6) / d;
+}
+
+// The third difference, without normalization by the grid spacing.
+pub fn diff3_unnormalized(level: u32, vector: &[f64], out: &mut [f64]) -> Answer
+    ensures { λ r. ⌜ (numberOf r ≡ faultOf level (bothFit level (length (now (vector .entry))) (length (now (out .entry)))))
+        × (now (out .exit) ≡ leftBy r (diff3Of (now (vector .entry))) (now (out .entry))) ⌝ }
+{
+    let answer = checked_both(level, vector.len(), out.len());
+    match answer {
+        Answer::Done => {
+            diff3_rows(vector, out);
+            Answer::Done
+        }
+        Answer::RefusedLevel => Answer::RefusedLevel,
+        Answer::RefusedLength => Answer::RefusedLength,
+    }
+}
+
+fn diff3_rows(vector: &[f64], out: &mut [f64])
+    requires { ⌜ (9 ≤ length (now vector)) × (length (now out) ≡ length (now vector)) ⌝ }
+    ensures { λ _. ⌜ now (out .exit) ≡ diff3Of (now (vector .entry)) ⌝ }
+{
+    let n = vector.len();
+    let end = n - 3;
+    diff3_run(vector, out, 0, 3, 0);
+    diff3_run(vector, out, 3, end, 3);
+    diff3_run(vector, out, end, n, 6);
+}
+
+// Points lo to hi, where a point's seven numbers begin back points before it.
+fn diff3_run(vector: &[f64], out: &mut [f64], lo: usize, hi: usize, back: usize)
+    requires { ⌜ (length (now out) ≡ length (now vector)) × Windows (length (now vector)) lo hi back ⌝ }
+    ensures { λ _. ⌜ (length (now (out .exit)) ≡ length (now (out .entry)))
+        × Grown 0 lo hi (λ E. diff3At (now (vector .entry))) (now (out .entry)) (now (out .exit)) ⌝ }
+{
+    let mut i = lo;
+    while i < hi {
+        out[i] = rows::row7_hollow(rows::DIFF3, vector, i - back) / 8.0;
+        i += 1;
+    }
+}
+
+// Sets the left Neumann boundary value, by the row of `diff` at point 0.
+pub fn set_left_neumann_bc(vector: &mut [f64]) -> Answer
+    ensures { λ r. ⌜ (numberOf r ≡ shortOf 5 (length (now (vector .entry))))
+        × (now (vector .exit) ≡ leftBy r (withLeftNeumann (now (vector .entry))) (now (vector .entry))) ⌝ }
+{
+    if vector.len() < 5 {
+        return Answer::RefusedLength;
+    }
+    let value = rows::row4(rows::NEUMANN, vector, 1) / 25.0;
+    vector[0] = value;
+    Answer::Done
 }

@@ -6,7 +6,7 @@ use native.Mathlib.Omega.{arith}
 use borrow.Author.Needs.{needs}
 use lib.ListN.{length, length-set}
 use lib.Ieee.{nan}
-use Rattle.vectors.specs.MemoryLaws.{Grown, grown-none, grown-step, filled-none, filled-all, step, step-at}
+use Rattle.vectors.specs.MemoryLaws.{Grown, grown-none, grown-step, edged}
 use Rattle.vectors.specs.Stencil.{diffOf, diffAt, diffLeft0, diffLeft1, diffInner, diffRight1, diffRight0}
 use Rattle.vectors.specs.StencilLaws.{diff-left0, diff-left1, diff-inner, diff-right1, diff-right0}
 use Rattle.vectors.proofs.diff.diff_rows.Statement.{statement}
@@ -35,12 +35,11 @@ returns c =
     let start = first .before .before .before in
     let a = start .args in
     let xs = a .vector .now in
-    let f = turn .loop .inv .3 .grow (a .out .now)
-    (step (step (filled-none 0 (diffAt (a .h) xs) (a .out .now)) refl (diff-left0 (a .h) _ xs xs refl refl (first .row5 .ensures))) refl (diff-left1 (a .h) _ xs xs refl refl (turn .before .row52 .ensures))) in
-    filled-all nan
-    (step-at (length xs - 1) (step-at (length xs - 2) f (diff-right1 (a .h) _ xs xs refl refl (omega arith) (c .before .row53 .ensures)) (omega arith) (omega arith) (omega arith))
-    (diff-right0 (a .h) _ xs xs refl refl (omega arith) (c .row54 .ensures)) refl (omega arith) (omega arith))
-    (start .pre .1)
+    edged (length xs) nan (a .out .now) (omega arith) (start .pre .1) (omega arith) (turn .loop .inv .3)
+    (diff-left0 (a .h) _ xs xs refl refl (first .row5 .ensures))
+    (diff-left1 (a .h) _ xs xs refl refl (turn .before .row52 .ensures))
+    (diff-right1 (a .h) _ xs xs refl refl (omega arith) (c .before .row53 .ensures))
+    (diff-right0 (a .h) _ xs xs refl refl (omega arith) (c .row54 .ensures))
 
 pub diff-rows-spec : {M : Type 1} → statement M
 diff-rows-spec =

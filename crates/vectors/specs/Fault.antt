@@ -12,6 +12,9 @@ faultOf level fits = cond (levelInRange level) (cond fits 0 11) 5
 abbrev pub bothFit : ℕ → ℕ → ℕ → Bool
 bothFit level a b = eqb a (pointsOf level) && eqb b (pointsOf level)
 
+abbrev pub allFit : ℕ → ℕ → ℕ → ℕ → Bool
+allFit level a b c = bothFit level a b && eqb c (pointsOf level)
+
 -- one memory holds at least so many numbers
 abbrev pub shortOf : ℕ → ℕ → ℕ
 shortOf least len = cond (leb least len) 0 11

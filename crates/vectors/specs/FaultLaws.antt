@@ -10,7 +10,7 @@ use Rattle.vectors.specs.declared.answer.Answer.the-variants.{Done}
 use Rattle.vectors.specs.Answer.{numberOf}
 use Rattle.vectors.specs.Grid.{levelInRange, pointsOf}
 use Rattle.vectors.specs.GridLaws.{Level, level-of, in-range}
-use Rattle.vectors.specs.Fault.{faultOf, bothFit}
+use Rattle.vectors.specs.Fault.{faultOf, bothFit, allFit}
 
 pub fault-level : (level : ℕ) (fits : Bool) → levelInRange level ≡ false → 5 ≡ faultOf level fits
 unfolding faultOf
@@ -44,15 +44,26 @@ and-true false y e = absurd (true≢false (sym e))
 
 -- two memories of one number for each point
 pub record BothFit (level a b : ℕ) : Type 0 where
-  pub ranged : Level level
   pub first : a ≡ pointsOf level
   pub second : b ≡ pointsOf level
 
-pub both-fit : (level a b : ℕ) {answer : Answer} → answer ≡ Done → numberOf answer ≡ faultOf level (bothFit level a b) → BothFit level a b
-both-fit level a b told e =
-    let g = accepted level (bothFit level a b) (sym (ap numberOf told) ∙ e) in
-    let h = and-true (eqb a (pointsOf level)) (eqb b (pointsOf level)) (g .fitting) in
-    record { ranged = g .ranged; first = eqb-true a (pointsOf level) (h .0); second = eqb-true b (pointsOf level) (h .1) }
+both-of : (level a b : ℕ) → bothFit level a b ≡ true → BothFit level a b
+both-of level a b e =
+    let h = and-true (eqb a (pointsOf level)) (eqb b (pointsOf level)) e in
+    record { first = eqb-true a (pointsOf level) (h .0); second = eqb-true b (pointsOf level) (h .1) }
+
+-- what an accepted call on two memories, or on three, was lent
+module _ (level a b : ℕ) {answer : Answer} (told : answer ≡ Done) where
+  pub both-fit : numberOf answer ≡ faultOf level (bothFit level a b) → Level level × BothFit level a b
+  both-fit e =
+      let g = accepted level (bothFit level a b) (sym (ap numberOf told) ∙ e) in
+      (g .ranged, both-of level a b (g .fitting))
+
+  pub all-fit : (c : ℕ) → numberOf answer ≡ faultOf level (allFit level a b c) → Level level × BothFit level a b × (c ≡ pointsOf level)
+  all-fit c e =
+      let g = accepted level (allFit level a b c) (sym (ap numberOf told) ∙ e) in
+      let h = and-true (bothFit level a b) (eqb c (pointsOf level)) (g .fitting) in
+      (g .ranged, both-of level a b (h .0), eqb-true c (pointsOf level) (h .1))
 
 -- the number of an answer, where a `match` tells its case
 pub told-number : {answer case : Answer} {number : ℕ} → answer ≡ case → numberOf answer ≡ number → numberOf case ≡ number

@@ -1,6 +1,7 @@
 pub mod Answer
 pub mod Constants
 pub mod Dissipation
+pub mod DissipationLaws
 pub mod Exp
 pub mod ExpLaws
 pub mod ExpTable

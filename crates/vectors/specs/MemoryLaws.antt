@@ -125,6 +125,12 @@ module _ {A : Type 0} where
   unfolding tab
   getD-tab n g j d h = getD-tabFrom 0 n g j d h ∙ ap g (zero-add j)
 
+  -- two functions that agree below n
+  pub tab-same : (n : ℕ) (f g : ℕ → A) (d : A) → ((i : ℕ) → i < n → f i ≡ g i) → tab n f ≡ tab n g
+  tab-same n f g d e =
+      ext-getD d (tab n f) (tab n g) (length-tab n f ∙ sym (length-tab n g))
+      (λ i h. let l : i < n = omega (arith, length-tab n f) in getD-tab n f i d l ∙ e i l ∙ sym (getD-tab n g i d l))
+
   -- a whole list filled
   pub fill-all : (n : ℕ) (g : ℕ → A) (xs : List A) (d : A) → length xs ≡ n → fill 0 n g xs ≡ tab n g
   fill-all n g xs d e =

@@ -4,7 +4,7 @@ ghost use mathlib.Core.Bool.{_&&_};
 ghost use Prim.Native.Nat.{_+_};
 ghost use lib.Dec.{leb};
 ghost use Rattle.vectors.specs.Answer.{numberOf};
-ghost use Rattle.vectors.specs.Fault.{faultOf, bothFit};
+ghost use Rattle.vectors.specs.Fault.{faultOf, bothFit, allFit};
 use crate::grid::length_at_discretization;
 
 // `numberOf` in specs/Answer.antt gives each case the number that document 01 has for it.
@@ -56,4 +56,12 @@ pub fn checked_both(level: u32, a: usize, b: usize) -> Answer
 {
     let n = length_at_discretization(level);
     checked(level, and_also(a == n, b == n))
+}
+
+// The same for three.
+pub fn checked_three(level: u32, a: usize, b: usize, c: usize) -> Answer
+    ensures { λ r. ⌜ numberOf r ≡ faultOf level (allFit level a b c) ⌝ }
+{
+    let n = length_at_discretization(level);
+    checked(level, and_also(and_also(a == n, b == n), c == n))
 }

@@ -3,14 +3,22 @@ ghost use mathlib.Core.Path.{_≡_};
 ghost use lib.ListN.{length};
 ghost use Prim.Native.Nat.{_≤_};
 ghost use Rattle.vectors.specs.Answer.{numberOf, leftBy};
-ghost use Rattle.vectors.specs.Fault.{faultOf, bothFit, shortOf};
-ghost use Rattle.vectors.specs.Grid.{spacingOf};
+ghost use Rattle.vectors.specs.Dissipation.{radialCorrectionOf, halfDissipationOf, dissipationOf};
+ghost use Rattle.vectors.specs.DissipationLaws.{correctedBy, scaledBy};
+ghost use Rattle.vectors.specs.Fault.{faultOf, bothFit, allFit, shortOf};
+ghost use Rattle.vectors.specs.FaultLaws.{BothFit};
+ghost use Rattle.vectors.specs.Grid.{pointsOf, spacingOf};
 ghost use Rattle.vectors.specs.MemoryLaws.{Grown};
 ghost use Rattle.vectors.specs.Stencil.{diffOf, diff2Of, diff3At, diff3Of, withLeftNeumann};
 ghost use Rattle.vectors.specs.StencilLaws.{Windows};
 use crate::answer::Answer;
 use crate::answer::checked_both;
+use crate::answer::checked_three;
+use crate::constants::DISSIPATION_FACTOR;
+use crate::field_vector::fourth_power;
+use crate::field_vector::square;
 use crate::grid::delta;
+use crate::grid::point;
 use crate::rows;
 
 // The first derivative along r of a vector on the grid of this level.
@@ -130,4 +138,63 @@ pub fn set_left_neumann_bc(vector: &mut [f64]) -> Answer
     let value = rows::row4(rows::NEUMANN, vector, 1) / 25.0;
     vector[0] = value;
     Answer::Done
+}
+
+// Kreiss-Oliger dissipation with a radial correction c: half becomes c × D u, and out D(c × D u), scaled.
+pub fn dissipation(level: u32, vector: &[f64], half: &mut [f64], out: &mut [f64]) -> Answer
+    ensures { λ r. ⌜ (numberOf r ≡ faultOf level (allFit level (length (now (vector .entry))) (length (now (half .entry))) (length (now (out .entry)))))
+        × (now (half .exit) ≡ leftBy r (halfDissipationOf level (now (vector .entry))) (now (half .entry)))
+        × (now (out .exit) ≡ leftBy r (dissipationOf level (now (vector .entry))) (now (out .entry))) ⌝ }
+{
+    let answer = checked_three(level, vector.len(), half.len(), out.len());
+    match answer {
+        Answer::Done => {
+            dissipation_passes(level, vector, half, out);
+            Answer::Done
+        }
+        Answer::RefusedLevel => Answer::RefusedLevel,
+        Answer::RefusedLength => Answer::RefusedLength,
+    }
+}
+
+fn dissipation_passes(level: u32, vector: &[f64], half: &mut [f64], out: &mut [f64])
+    requires { ⌜ (9 ≤ pointsOf level) × BothFit level (length (now vector)) (length (now half)) × (length (now out) ≡ pointsOf level) ⌝ }
+    ensures { λ _. ⌜ (now (half .exit) ≡ halfDissipationOf level (now (vector .entry))) × (now (out .exit) ≡ dissipationOf level (now (vector .entry))) ⌝ }
+{
+    diff3_rows(vector, half);
+    correct(level, half);
+    diff3_rows(half, out);
+    scale(DISSIPATION_FACTOR / delta(level) / 64.0, out);
+}
+
+// The radial correction at coordinate r, which dampens the dissipation away from the origin.
+pub fn radial_correction(r: f64) -> f64
+    ensures { λ c. ⌜ c ≡ radialCorrectionOf r ⌝ }
+{
+    fourth_power(1.0 - square(r))
+}
+
+// Each number times the correction at its point.
+fn correct(level: u32, values: &mut [f64])
+    requires { ⌜ length (now values) ≡ pointsOf level ⌝ }
+    ensures { λ _. ⌜ now (values .exit) ≡ correctedBy level (now (values .entry)) ⌝ }
+{
+    let n = values.len();
+    let mut i = 0;
+    while i < n {
+        values[i] = radial_correction(point(level, i)) * values[i];
+        i += 1;
+    }
+}
+
+// Each number times the factor.
+fn scale(factor: f64, values: &mut [f64])
+    ensures { λ _. ⌜ now (values .exit) ≡ scaledBy factor (now (values .entry)) ⌝ }
+{
+    let n = values.len();
+    let mut i = 0;
+    while i < n {
+        values[i] = factor * values[i];
+        i += 1;
+    }
 }

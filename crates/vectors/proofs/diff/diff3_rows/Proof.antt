@@ -30,13 +30,13 @@ diff3-rows-spec =
     (λ c. search needs)
     (λ c κs. (c .before .before .before .pre .1, windows-left _ (c .before .before .before .pre .0)))
     (λ c κs.
-        let first = c .before .before .before in
-        let start = first .before .before .before .before in
-        (first .diff3-run .ensures .0 ∙ start .pre .1, windows-inner _ (start .pre .0)))
+    let first = c .before .before .before in
+    let start = first .before .before .before .before in
+    (first .diff3-run .ensures .0 ∙ start .pre .1, windows-inner _ (start .pre .0)))
     (λ c κs.
-        let second = c .before .before .before in
-        let first = second .before .before .before .before in
-        let start = first .before .before .before .before in
-        (second .diff3-run2 .ensures .0 ∙ first .diff3-run .ensures .0 ∙ start .pre .1, windows-right _ (start .pre .0)))
+    let second = c .before .before .before in
+    let first = second .before .before .before .before in
+    let start = first .before .before .before .before in
+    (second .diff3-run2 .ensures .0 ∙ first .diff3-run .ensures .0 ∙ start .pre .1, windows-right _ (start .pre .0)))
     (λ c. search needs)
     returns)

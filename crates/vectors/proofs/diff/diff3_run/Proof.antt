@@ -45,6 +45,6 @@ diff3-run-spec =
     loop-again
     (λ c. search needs)
     (λ c.
-        let turn = c .before in
-        let e : turn .loop .i ≡ turn .before .before .before .args .hi = omega arith in
-        (turn .loop .inv .2, rw e at (turn .loop .inv .3))))
+    let turn = c .before in
+    let e : turn .loop .i ≡ turn .before .before .before .args .hi = omega arith in
+    (turn .loop .inv .2, rw e at (turn .loop .inv .3))))

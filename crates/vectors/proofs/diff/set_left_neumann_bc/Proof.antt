@@ -17,5 +17,5 @@ set-left-neumann-bc-spec =
     (λ c. search needs)
     (λ c. search needs)
     (λ c.
-        let xs = c .before .before .before .before .args .vector .now in
-        (simp (le-leb 5 (length xs) (omega arith)), ap (set xs 0) (neumann-is xs (c .row4 .ensures)))))
+    let xs = c .before .before .before .before .args .vector .now in
+    (simp (le-leb 5 (length xs) (omega arith)), ap (set xs 0) (neumann-is xs (c .row4 .ensures)))))

@@ -9,30 +9,57 @@ fn next(s: u64) -> u64 {
 }
 
 /// 64 bits of state s and the state after it.
-pub fn pattern(s: u64) -> u64 {
+fn pattern(s: u64) -> u64 {
     (s / 256) * (1 << 32) + next(s) / 256
 }
 
 /// The state after the two that `pattern` uses.
-pub fn after(s: u64) -> u64 {
+fn after(s: u64) -> u64 {
     next(next(s))
 }
 
 /// A number from -1 up to 1, from the 52 low bits of the pattern.
-pub fn unit(s: u64) -> f64 {
+fn unit(s: u64) -> f64 {
     of_bits(0x3FF0000000000000 + pattern(s) % (1 << 52)) * 2.0 - 3.0
 }
 
-/// `count` numbers made of the generator's states from seed on.
-pub fn list(seed: u64, count: usize, of: impl Fn(u64) -> f64) -> Vec<f64> {
+/// Where a list of numbers is drawn from.
+#[derive(Clone, Copy)]
+pub enum Range {
+    /// Any pattern of bits.
+    Patterns,
+    /// -710 to 711.
+    Exp,
+    /// About seven entries of exp's table to either side.
+    NearZero,
+    /// 0 to pi/2.
+    Quarter,
+    /// -10 to 10.
+    Ten,
+    /// -1 to 1.
+    Unit,
+}
+
+fn argument(range: Range, s: u64) -> f64 {
+    match range {
+        Range::Patterns => of_bits(pattern(s)),
+        Range::Exp => 0.5 + 710.5 * unit(s),
+        Range::NearZero => 0.02 * unit(s),
+        Range::Quarter => 0.7853981633974483 * (1.0 + unit(s)),
+        Range::Ten => 10.0 * unit(s),
+        Range::Unit => unit(s),
+    }
+}
+
+/// `count` numbers of a range, by the generator's states from seed on.
+pub fn list(range: Range, seed: u64, count: usize) -> Vec<f64> {
     let mut s = seed;
-    (0..count)
-        .map(|_| {
-            let x = of(s);
-            s = after(s);
-            x
-        })
-        .collect()
+    let mut values = Vec::new();
+    for _ in 0..count {
+        values.push(argument(range, s));
+        s = after(s);
+    }
+    values
 }
 
 /// How many kinds of vectors there are before the spikes.

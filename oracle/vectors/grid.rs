@@ -1,7 +1,8 @@
-//! The constants and the grid of the published files.
+//! The constants and the grid of the published files, and tan along the grid as the initial state takes it.
 use crate::digest::{bits_of, digest};
 use crate::domain::constants::*;
 use crate::domain::grid::Grid;
+use std::f64::consts::PI;
 
 pub fn print() {
     constant("BH_RADIAL_FACTOR_TRACKING", BH_RADIAL_FACTOR_TRACKING);
@@ -16,6 +17,7 @@ pub fn print() {
         println!("grid level {level} length {}", Grid::length_at_discretization(level));
         println!("grid level {level} delta {:016x}", bits_of(grid.delta));
         println!("grid level {level} points {}", digest(grid.points.iter()));
+        println!("grid level {level} tangents {}", digest((PI / 2.0 * &grid.points).tan().iter()));
     }
 }
 

@@ -1,29 +1,24 @@
 //! The minimum, and the first index at or below a bound.
 //! At the published threshold the index is the published one; at other bounds it is our reading, `position`.
-use crate::arguments::{vector, KINDS};
 use crate::digest::{bits_of, of_bits};
 use crate::domain::constraints::Constraints;
 use crate::domain::field_vector::FieldVector;
-use crate::domain::grid::Grid;
 
 const BOUNDS: [u64; 7] = [
     0x0000000000000000, 0x8000000000000000, 0xBFE0000000000000, 0x0000000000000001, 0x7FF0000000000000,
     0xFFF0000000000000, 0x7FF8000000000000,
 ];
 
-pub fn print() {
-    for level in 5..=8 {
-        let grid = Grid::from_level_of_discretization(level);
-        for kind in 0..KINDS {
-            let values = vector(&grid, kind);
-            println!("min level {level} vector {kind} {:016x}", bits_of(values.min()));
-            println!("threshold level {level} vector {kind} {}", index(collapse(&values)));
-            for b in BOUNDS {
-                let at = values.iter().position(|x| *x <= of_bits(b));
-                println!("bound {b:016x} level {level} vector {kind} {}", index(at));
-            }
-        }
+pub fn print(case: &str, values: &FieldVector) {
+    println!("min {case} {:016x}", bits_of(values.min()));
+    println!("threshold {case} {}", index(collapse(values)));
+    for b in BOUNDS {
+        let at = values.iter().position(|x| *x <= of_bits(b));
+        println!("bound {b:016x} {case} {}", index(at));
     }
+}
+
+pub fn print_short() {
     short(&[0.0, -0.0]);
     short(&[-0.0, 0.0]);
     short(&[f64::NAN]);

@@ -1,7 +1,7 @@
-//! What the calls answer where a level or a length is refused: our reading of 01, which numbers these 5 and 11.
+//! What the calls answer where a level, a length or an index is refused: our reading of 01, which numbers these 5 and 11.
 //! The level is tested first. A refused call leaves its memory as it was.
 use super::stencils::corrected;
-use crate::arguments::{list, unit};
+use crate::arguments::{list, Range};
 use crate::digest::digest;
 use crate::domain::field_vector::FieldVector;
 use crate::domain::grid::Grid;
@@ -26,8 +26,8 @@ pub fn print() {
         println!("outside level {level} delta 7ff8000000000000");
         println!("outside level {level} point 7ff8000000000000");
     }
-    for level in 5..=16 {
-        println!("outside level {level} point 7ff8000000000000");
+    for level in [5, 16] {
+        println!("beyond level {level} point 7ff8000000000000");
     }
 }
 
@@ -38,14 +38,17 @@ fn numbers_per_point(op: usize) -> isize {
 
 /// The memories are 80 numbers each, of which the call gets the first `length` and `room`.
 fn case(op: usize, name: &str, level: u32, length: usize, room: usize) {
-    let mut vector = list(7, 80, unit);
-    let mut out = list(8, 80, unit);
+    let mut vector = list(Range::Unit, 7, 80);
+    let mut out = list(Range::Unit, 8, 80);
     let number = answer(op, level, length, room);
     if number == 0 {
         carry_out(op, &mut vector[..length], &mut out);
     }
-    println!("{name} level {level} lengths {length} {room} answer {number}");
-    println!("{name} level {level} lengths {length} {room} left {} {}", digest(&vector), digest(&out));
+    println!(
+        "{name} level {level} lengths {length} {room} answer {number} left {} {}",
+        digest(&vector),
+        digest(&out)
+    );
 }
 
 fn answer(op: usize, level: u32, length: usize, room: usize) -> u32 {

@@ -1,0 +1,18 @@
+-- `vector` is safe and ends: the loop's number stays within its range. Assumes nothing.
+use mathlib.Core.Path.{_≡_}
+use Prim.Native.Nat.{_≤_, _-_}
+use borrow.Author.Needs.{needs}
+use lib.ListN.{length}
+use Rattle.vectors_cases.proofs.arguments.vector.Statement.{statement}
+use Rattle.vectors_cases.proofs.arguments.vector.Tie as tie
+
+abbrev Inv-loop : tie.InvT-loop
+Inv-loop level kind values₀ s₀ i₀ i-end values s i = (i ≤ i-end) × (i-end ≡ length values₀) × (length values ≡ i-end)
+
+abbrev μ-loop : tie.MeasureT-loop
+μ-loop level kind values₀ s₀ i₀ i-end values s i = i-end - i
+
+pub vector-spec : {M : Type 1} → statement M
+vector-spec =
+    tie.close
+    (tie.spec Inv-loop μ-loop (λ c κs. search needs) (λ c κs. search needs) (λ c. search needs) (λ c κs. search needs) (λ c κs. search needs) (λ c. search needs) (λ c. search needs) (λ c κs. search needs) (λ c. search needs) (λ c. search needs) (λ c. search needs) (λ c. search needs) (λ c. search needs))

@@ -1,0 +1,130 @@
+// The arguments of the cases, by the generator of oracle/arguments.rs.
+use crate::digest::mixed;
+use crate::digest::of_bits;
+
+pub const SPECIAL: [u64; 36] = [
+    0x0000000000000000,
+    0x8000000000000000,
+    0x0000000000000001,
+    0x8000000000000001,
+    0x000FFFFFFFFFFFFF,
+    0x800FFFFFFFFFFFFF,
+    0x0010000000000000,
+    0x8010000000000000,
+    0x0008000000000000,
+    0x3C90000000000000,
+    0x3FF0000000000000,
+    0xBFF0000000000000,
+    0x4000000000000000,
+    0x3FE62E42FEFA39EF,
+    0x40862800000000FF,
+    0x4086280000000001,
+    0x4086280000000000,
+    0x408627FFFFFFFFFF,
+    0x40862E42FEFA39EF,
+    0xC086200000000001,
+    0xC086200000000000,
+    0xC0861FFFFFFFFFFF,
+    0xC086232BDD7ABCD2,
+    0xC0874910D52D3051,
+    0x3FF921FB54442D17,
+    0x3FF921FB54442D18,
+    0x3FF921FB54442D19,
+    0xBFF921FB54442D18,
+    0x3FF921FB54442D16,
+    0x400921FB54442D18,
+    0x7FEFFFFFFFFFFFFF,
+    0xFFEFFFFFFFFFFFFF,
+    0x7FF0000000000000,
+    0xFFF0000000000000,
+    0x7FF8000000000000,
+    0xFFF8000000000001,
+];
+
+fn next(s: u64) -> u64 {
+    mixed(s, 1)
+}
+
+// 64 bits of state s and the state after it. A state is below 2^40, so the remainders change nothing.
+fn pattern(s: u64) -> u64 {
+    s / 256 % 4294967296 * 4294967296 + next(s) / 256 % 4294967296
+}
+
+// The state after the two that `pattern` uses.
+pub fn after(s: u64) -> u64 {
+    next(next(s))
+}
+
+// A number from -1 up to 1, from the 52 low bits of the pattern.
+fn unit(s: u64) -> f64 {
+    of_bits(0x3FF0000000000000 + pattern(s) % 4503599627370496) * 2.0 - 3.0
+}
+
+// Random, with +infinity at point kind - 16.
+fn spike(kind: u32, i: usize, s: u64) -> f64 {
+    if i % 4096 + 16 == kind as usize {
+        return 1.0 / 0.0;
+    }
+    unit(s)
+}
+
+fn infinite(i: usize, s: u64) -> f64 {
+    if i % 11 == 5 {
+        return unit(s) / 0.0;
+    }
+    unit(s)
+}
+
+fn missing(i: usize, s: u64) -> f64 {
+    if i % 13 == 6 {
+        return 0.0 / 0.0;
+    }
+    unit(s)
+}
+
+// Entry i, at the point r, of a vector of a kind, with the generator in state s.
+fn entry(kind: u32, r: f64, i: usize, s: u64) -> f64 {
+    match kind {
+        0 => r * (1.0 - r) * (r - 0.3),
+        1 => unit(s),
+        2 => of_bits(pattern(s)),
+        3 => 1e300 * unit(s),
+        4 => 1.7e308 * unit(s),
+        5 => 1e-310 * unit(s),
+        6 => -0.0,
+        7 => 0.0 * unit(s),
+        8 => infinite(i, s),
+        9 => missing(i, s),
+        10 => 1.0 - r,
+        _ => spike(kind, i, s),
+    }
+}
+
+pub fn vector(level: u32, kind: u32, values: &mut [f64]) {
+    let mut s = mixed(mixed(17, level as u64), kind as u64);
+    for i in 0..values.len() {
+        values[i] = entry(kind, vectors::grid::point(level, i), i, s);
+        s = after(s);
+    }
+}
+
+// A number of a range: any pattern, -710 to 711, near zero, 0 to pi/2, -10 to 10, -1 to 1.
+pub fn argument(range: u32, s: u64) -> f64 {
+    match range {
+        0 => of_bits(pattern(s)),
+        1 => 0.5 + 710.5 * unit(s),
+        2 => 0.02 * unit(s),
+        3 => 0.7853981633974483 * (1.0 + unit(s)),
+        4 => 10.0 * unit(s),
+        _ => unit(s),
+    }
+}
+
+// Numbers of a range, by the generator's states from seed on.
+pub fn list(range: u32, seed: u64, values: &mut [f64]) {
+    let mut s = seed;
+    for i in 0..values.len() {
+        values[i] = argument(range, s);
+        s = after(s);
+    }
+}

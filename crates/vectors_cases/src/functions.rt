@@ -1,0 +1,72 @@
+// exp, tan and the powers.
+use crate::arguments;
+use crate::digest::bits_of;
+use crate::digest::of_bits;
+use crate::digest::with;
+use crate::print;
+
+pub fn all() {
+    function(b"exp", 0, 16);
+    function(b"tan", 1, 4);
+    function(b"square", 2, 4);
+    function(b"fourth", 3, 4);
+    function(b"reciprocal", 4, 4);
+    chunks(b"exp", b" whole range", 0, 1, 16);
+    chunks(b"exp", b" near zero", 0, 2, 16);
+    chunks(b"tan", b" quarter", 1, 3, 4);
+    chunks(b"tan", b" beyond", 1, 4, 4);
+}
+
+fn function(name: &[u8], which: u32, seeds: u64) {
+    specials(name, which);
+    chunks(name, b" patterns", which, 0, seeds);
+}
+
+fn answer(which: u32, x: f64) -> f64 {
+    match which {
+        0 => vectors::exp::exp(x),
+        1 => vectors::tan::tan(x),
+        2 => vectors::field_vector::square(x),
+        3 => vectors::field_vector::fourth_power(x),
+        _ => vectors::field_vector::reciprocal(x),
+    }
+}
+
+fn specials(name: &[u8], which: u32) {
+    let table = arguments::SPECIAL;
+    for i in 0..36 {
+        print::text(name);
+        line(b" special", which, table[i]);
+    }
+}
+
+pub fn line(name: &[u8], which: u32, b: u64) {
+    print::text(name);
+    print::bits(b);
+    print::bits(bits_of(answer(which, of_bits(b))));
+    print::end();
+}
+
+fn chunks(name: &[u8], what: &[u8], which: u32, range: u32, seeds: u64) {
+    for k in 0..seeds {
+        print::text(name);
+        chunk(what, which, range, k + 1);
+    }
+}
+
+fn chunk(what: &[u8], which: u32, range: u32, seed: u64) {
+    print::text(what);
+    print::decimal(seed);
+    print::decimal(chunk_digest(which, range, seed));
+    print::end();
+}
+
+fn chunk_digest(which: u32, range: u32, seed: u64) -> u64 {
+    let mut d = 1;
+    let mut s = seed;
+    for i in 0..256usize {
+        d = with(d, answer(which, arguments::argument(range, s)));
+        s = arguments::after(s);
+    }
+    d
+}

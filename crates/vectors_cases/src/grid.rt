@@ -1,0 +1,95 @@
+// The constants, the grid and tan along the grid.
+use crate::digest::bits_of;
+use crate::digest::of_bits;
+use crate::digest::with;
+use crate::print;
+
+pub fn all() {
+    constants();
+    for level in 5..17 {
+        grid(level);
+    }
+}
+
+fn constants() {
+    constant(
+        b"BH_RADIAL_FACTOR_TRACKING",
+        vectors::constants::BH_RADIAL_FACTOR_TRACKING,
+    );
+    constant(
+        b"BH_RADIAL_FACTOR_THRESHOLD",
+        vectors::constants::BH_RADIAL_FACTOR_THRESHOLD,
+    );
+    constant(b"COURANT_NUMBER", vectors::constants::COURANT_NUMBER);
+    constant(
+        b"BH_SLOWDOWN_FACTOR",
+        vectors::constants::BH_SLOWDOWN_FACTOR,
+    );
+    constant(b"EPS", vectors::constants::EPS);
+    constant(
+        b"DISSIPATION_FACTOR",
+        vectors::constants::DISSIPATION_FACTOR,
+    );
+    constant(
+        b"INITIAL_WAVE_STEEPNESS",
+        vectors::constants::INITIAL_WAVE_STEEPNESS,
+    );
+}
+
+fn constant(name: &[u8], value: f64) {
+    print::text(b"constant ");
+    print::text(name);
+    print::bits(bits_of(value));
+    print::end();
+}
+
+fn grid(level: u32) {
+    let n = vectors::grid::length_at_discretization(level);
+    count(b"grid", level, n);
+    float(b"grid", level, b" delta", vectors::grid::delta(level));
+    along(b" points", level, points(level, n));
+    along(b" tangents", level, tangents(level, n));
+}
+
+fn along(what: &[u8], level: u32, d: u64) {
+    print::text(b"grid");
+    print::level(level);
+    print::text(what);
+    print::decimal(d);
+    print::end();
+}
+
+// The digest of the first n points.
+fn points(level: u32, n: usize) -> u64 {
+    let mut d = 1;
+    for i in 0..n {
+        d = with(d, vectors::grid::point(level, i));
+    }
+    d
+}
+
+// The digest of tan at pi/2, as rounded, times each of the first n points.
+fn tangents(level: u32, n: usize) -> u64 {
+    let mut d = 1;
+    for i in 0..n {
+        let y = of_bits(0x3FF921FB54442D18) * vectors::grid::point(level, i);
+        d = with(d, vectors::tan::tan(y));
+    }
+    d
+}
+
+pub fn count(name: &[u8], level: u32, n: usize) {
+    print::text(name);
+    print::level(level);
+    print::text(b" length");
+    print::decimal(n as u64);
+    print::end();
+}
+
+pub fn float(name: &[u8], level: u32, what: &[u8], value: f64) {
+    print::text(name);
+    print::level(level);
+    print::text(what);
+    print::bits(bits_of(value));
+    print::end();
+}

@@ -1,0 +1,65 @@
+// The stencils.
+use crate::digest::digest;
+use crate::print;
+use vectors::answer::Answer;
+
+pub fn print(level: u32, kind: u32, values: &[f64]) {
+    single(b"diff", 0, level, kind, values);
+    single(b"diff2", 1, level, kind, values);
+    single(b"diff3", 2, level, kind, values);
+    twofold(level, kind, values);
+}
+
+pub fn print_neumann(level: u32, kind: u32, values: &mut [f64]) {
+    vectors::diff::set_left_neumann_bc(level, values);
+    line(b"neumann", level, kind, digest(values));
+}
+
+fn single(name: &[u8], stencil: u32, level: u32, kind: u32, vector: &[f64]) {
+    let mut out = [0.0; 257];
+    let n = vector.len();
+    if n <= 257 {
+        let d = result(stencil, level, vector, &mut out[0..n]);
+        line(name, level, kind, d);
+    }
+}
+
+fn result(stencil: u32, level: u32, vector: &[f64], out: &mut [f64]) -> u64 {
+    apply(stencil, level, vector, out);
+    digest(out)
+}
+
+// The dissipation, then the radially corrected half dissipation.
+fn twofold(level: u32, kind: u32, vector: &[f64]) {
+    let mut out = [0.0; 514];
+    let n = vector.len();
+    if n <= 257 {
+        let end = n + n;
+        both_results(level, kind, vector, &mut out[0..end]);
+    }
+}
+
+fn both_results(level: u32, kind: u32, vector: &[f64], out: &mut [f64]) {
+    let n = vector.len();
+    vectors::diff::dissipation(level, vector, out);
+    if n <= out.len() {
+        line(b"dissipation", level, kind, digest(&out[0..n]));
+        line(b"corrected", level, kind, digest(&out[n..]));
+    }
+}
+
+pub fn apply(stencil: u32, level: u32, vector: &[f64], out: &mut [f64]) -> Answer {
+    match stencil {
+        0 => vectors::diff::diff(level, vector, out),
+        1 => vectors::diff::diff2(level, vector, out),
+        2 => vectors::diff::diff3_unnormalized(level, vector, out),
+        _ => vectors::diff::dissipation(level, vector, out),
+    }
+}
+
+fn line(name: &[u8], level: u32, kind: u32, d: u64) {
+    print::text(name);
+    print::level_and_vector(level, kind);
+    print::decimal(d);
+    print::end();
+}

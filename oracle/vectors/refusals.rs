@@ -9,16 +9,17 @@ use crate::use_cases::diff::{diff, diff2, diff3_unnormalized, dissipation, set_l
 
 const NAMES: [&str; 5] = ["diff", "diff2", "diff3", "dissipation", "neumann"];
 
-/// Level, length of the vector, points that the result has room for, and what that room is changed by.
-const CASES: [(u32, usize, isize, isize); 14] = [
-    (5, 33, 33, 0), (4, 17, 17, 0), (4, 33, 33, 0), (17, 33, 33, 0), (261, 33, 33, 0), (4, 32, 33, 1), (17, 34, 33, -1),
-    (5, 32, 33, 0), (5, 34, 33, 0), (5, 33, 33, -1), (5, 33, 33, 1), (5, 32, 33, -1), (5, 34, 33, 1), (6, 33, 33, 0),
+/// Level, and the lengths of the vector, of the half dissipation and of the result.
+const CASES: [(u32, usize, usize, usize); 17] = [
+    (5, 33, 33, 33), (4, 17, 17, 17), (4, 33, 33, 33), (17, 33, 33, 33), (261, 33, 33, 33), (4, 32, 34, 34), (17, 34, 32, 32),
+    (5, 32, 33, 33), (5, 34, 33, 33), (5, 33, 32, 32), (5, 33, 34, 34), (5, 32, 32, 32), (5, 34, 34, 34), (6, 33, 33, 33),
+    (5, 33, 32, 33), (5, 4, 33, 33), (5, 5, 33, 33),
 ];
 
 pub fn print() {
     for (op, name) in NAMES.iter().enumerate() {
-        for (level, length, points, more) in CASES {
-            case(op, name, level, length, (numbers_per_point(op) * points + more) as usize);
+        for (level, length, half, room) in CASES {
+            case(op, name, level, length, half, room);
         }
     }
     for level in [4, 17, 261] {
@@ -31,47 +32,48 @@ pub fn print() {
     }
 }
 
-/// `dissipation` leaves two vectors.
-fn numbers_per_point(op: usize) -> isize {
-    if op == 3 { 2 } else { 1 }
-}
-
-/// The memories are 80 numbers each, of which the call gets the first `length` and `room`.
-fn case(op: usize, name: &str, level: u32, length: usize, room: usize) {
+/// The memories are 80 numbers each, of which the call gets the first `length`, `half` and `room`.
+fn case(op: usize, name: &str, level: u32, length: usize, half: usize, room: usize) {
     let mut vector = list(Range::Unit, 7, 80);
+    let mut middle = list(Range::Unit, 9, 80);
     let mut out = list(Range::Unit, 8, 80);
-    let number = answer(op, level, length, room);
+    let number = answer(op, level, length, half, room);
     if number == 0 {
-        carry_out(op, &mut vector[..length], &mut out);
+        carry_out(op, &mut vector[..length], &mut middle, &mut out);
     }
     println!(
-        "{name} level {level} lengths {length} {room} answer {number} left {} {}",
+        "{name} level {level} lengths {length} {room} answer {number} left {} {} {}",
         digest(&vector),
+        digest(&middle),
         digest(&out)
     );
 }
 
-fn answer(op: usize, level: u32, length: usize, room: usize) -> u32 {
+/// `set_left_neumann_bc` has no level and wants five numbers; only `dissipation` is lent the half.
+fn answer(op: usize, level: u32, length: usize, half: usize, room: usize) -> u32 {
+    if op == 4 {
+        return if length < 5 { 11 } else { 0 };
+    }
     if level < 5 || level > 16 {
         return 5;
     }
     let n = (1 << level) + 1;
-    let room_is_right = match op {
-        4 => true,
-        3 => room == 2 * n,
-        _ => room == n,
-    };
-    if length == n && room_is_right { 0 } else { 11 }
+    let half_fits = op != 3 || half == n;
+    if length == n && room == n && half_fits { 0 } else { 11 }
 }
 
-fn carry_out(op: usize, vector: &mut [f64], out: &mut [f64]) {
+fn carry_out(op: usize, vector: &mut [f64], half: &mut [f64], out: &mut [f64]) {
     let grid = Grid::from_level_of_discretization(5);
     let mut values = FieldVector::new(vector.to_vec());
     let result: Vec<f64> = match op {
         0 => diff(&grid, &values).into_iter().collect(),
         1 => diff2(&grid, &values).into_iter().collect(),
         2 => diff3_unnormalized(&values).into_iter().collect(),
-        3 => dissipation(&values, &grid).into_iter().chain(corrected(&values, &grid)).collect(),
+        3 => {
+            let middle: Vec<f64> = corrected(&values, &grid).into_iter().collect();
+            half[..middle.len()].copy_from_slice(&middle);
+            dissipation(&values, &grid).into_iter().collect()
+        }
         _ => {
             set_left_neumann_bc(&mut values);
             vector.copy_from_slice(&values[..]);

@@ -1,6 +1,8 @@
 -- The refusals of this layer, by the numbers that 01 gives them ("From the input", "From the state").
-use mathlib.Core.List.{List}
+use mathlib.Core.Path.{_≡_, refl}
+use mathlib.Core.Bool.{cond}
 use Prim.Native.Nat.{ℕ}
+use lib.Dec.{eqb}
 use Rattle.vectors.specs.declared.answer.Answer.{Answer}
 use Rattle.vectors.specs.declared.answer.Answer.the-variants.{Done, RefusedLevel, RefusedLength}
 
@@ -15,3 +17,12 @@ abbrev pub leftBy : {A : Type 0} → Answer → A → A → A
 leftBy Done result before = result
 leftBy RefusedLevel result before = before
 leftBy RefusedLength result before = before
+
+-- the same by the number
+abbrev pub leftAt : {A : Type 0} → ℕ → A → A → A
+leftAt number result before = cond (eqb number 0) result before
+
+pub left-is : {A : Type 0} (answer : Answer) (result before : A) → leftBy answer result before ≡ leftAt (numberOf answer) result before
+left-is Done result before = refl
+left-is RefusedLevel result before = refl
+left-is RefusedLength result before = refl

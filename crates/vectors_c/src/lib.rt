@@ -2,9 +2,11 @@
 ghost use mathlib.Core.Path.{_≡_};
 ghost use mathlib.Core.List.{map};
 ghost use lib.ListN.{length};
-ghost use Rattle.vectors.specs.Answer.{numberOf, leftBy};
-ghost use Rattle.vectors.specs.Diff.{diffAnswer, diffOf};
+ghost use Rattle.vectors.specs.Answer.{numberOf, leftAt};
 ghost use Rattle.vectors.specs.Exp.{expOf};
+ghost use Rattle.vectors.specs.Fault.{faultOf, bothFit};
+ghost use Rattle.vectors.specs.Grid.{spacingOf};
+ghost use Rattle.vectors.specs.Stencil.{diffOf};
 use vectors::answer::Answer;
 
 // exp of each value, in place.
@@ -18,8 +20,8 @@ pub extern "C" fn vectors_exp_all(values: &mut [f64])
 // The first difference of `vector` into `out`; answers 0, or 5 or 11 where it refuses.
 #[no_mangle]
 pub extern "C" fn vectors_diff(level: u32, vector: &[f64], out: &mut [f64]) -> u32
-    ensures answer { λ r. ⌜ r ≡ numberOf (diffAnswer level (length (now (vector .entry))) (length (now (out .entry)))) ⌝ }
-    ensures memory { λ r. ⌜ now (out .exit) ≡ leftBy (diffAnswer level (length (now (vector .entry))) (length (now (out .entry)))) (diffOf level (now (vector .entry))) (now (out .entry)) ⌝ }
+    ensures { λ r. ⌜ (r ≡ faultOf level (bothFit level (length (now (vector .entry))) (length (now (out .entry)))))
+        × (now (out .exit) ≡ leftAt r (diffOf (spacingOf level) (now (vector .entry))) (now (out .entry))) ⌝ }
 {
     number_of(vectors::diff::diff(level, vector, out))
 }

@@ -20,13 +20,14 @@ pub fn all() {
 }
 
 fn cases(name: &[u8], stencil: u32) {
-    for k in 0..14 {
+    for k in 0..17 {
         case(
             name,
             stencil,
             level_of(k),
             length_of(k),
-            room_of(stencil, k),
+            half_of(k),
+            room_of(k),
         );
     }
 }
@@ -46,20 +47,21 @@ fn length_of(k: u32) -> usize {
         1 => 17,
         5 | 7 | 11 => 32,
         6 | 8 | 12 => 34,
+        15 => 4,
+        16 => 5,
         _ => 33,
     }
 }
 
-// `dissipation` leaves two vectors.
-fn room_of(stencil: u32, k: u32) -> usize {
-    if stencil == 3 {
-        return match k {
-            1 => 34,
-            6 | 9 | 11 => 65,
-            5 | 10 | 12 => 67,
-            _ => 66,
-        };
+// Only `dissipation` is lent this memory.
+fn half_of(k: u32) -> usize {
+    match k {
+        14 => 32,
+        _ => room_of(k),
     }
+}
+
+fn room_of(k: u32) -> usize {
     match k {
         1 => 17,
         6 | 9 | 11 => 32,
@@ -68,37 +70,59 @@ fn room_of(stencil: u32, k: u32) -> usize {
     }
 }
 
-// The memories are 80 numbers each, of which the call gets the first `length` and `room`.
-fn case(name: &[u8], stencil: u32, level: u32, length: usize, room: usize) {
+// The memories are 80 numbers each, of which the call gets the first `length`, `half` and `room`.
+fn case(name: &[u8], stencil: u32, level: u32, length: usize, half: usize, room: usize) {
     let mut vector = [0.0; 80];
+    let mut middle = [0.0; 80];
     let mut out = [0.0; 80];
     arguments::list(5, 7, &mut vector);
+    arguments::list(5, 9, &mut middle);
     arguments::list(5, 8, &mut out);
     lengths(name, level, length, room);
-    case_in(stencil, level, length, room, &mut vector, &mut out);
+    case_in(
+        stencil,
+        level,
+        length,
+        half,
+        room,
+        &mut vector,
+        &mut middle,
+        &mut out,
+    );
 }
 
 fn case_in(
     stencil: u32,
     level: u32,
     length: usize,
+    half: usize,
     room: usize,
     vector: &mut [f64],
+    middle: &mut [f64],
     out: &mut [f64],
 ) {
     if length <= vector.len() {
-        if room <= out.len() {
-            let answer = call(stencil, level, &mut vector[0..length], &mut out[0..room]);
-            line(answer, digest(vector), digest(out));
+        if half <= middle.len() {
+            if room <= out.len() {
+                let answer = call(
+                    stencil,
+                    level,
+                    &mut vector[0..length],
+                    &mut middle[0..half],
+                    &mut out[0..room],
+                );
+                line(answer, digest(vector), digest(middle), digest(out));
+            }
         }
     }
 }
 
-fn call(stencil: u32, level: u32, vector: &mut [f64], out: &mut [f64]) -> u64 {
-    if stencil == 4 {
-        return number(vectors::diff::set_left_neumann_bc(level, vector));
+fn call(stencil: u32, level: u32, vector: &mut [f64], half: &mut [f64], out: &mut [f64]) -> u64 {
+    match stencil {
+        3 => number(vectors::diff::dissipation(level, vector, half, out)),
+        4 => number(vectors::diff::set_left_neumann_bc(vector)),
+        _ => number(stencils::apply(stencil, level, vector, out)),
     }
-    number(stencils::apply(stencil, level, vector, out))
 }
 
 // 01's number of a refusal, 0 where there is none.
@@ -110,12 +134,13 @@ fn number(answer: Answer) -> u64 {
     }
 }
 
-// The answer, and what the two memories hold after the call.
-fn line(answer: u64, vector: u64, out: u64) {
+// The answer, and what the memories hold after the call.
+fn line(answer: u64, vector: u64, half: u64, out: u64) {
     print::text(b" answer");
     print::decimal(answer);
     print::text(b" left");
     print::decimal(vector);
+    print::decimal(half);
     print::decimal(out);
     print::end();
 }

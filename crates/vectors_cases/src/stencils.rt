@@ -11,7 +11,7 @@ pub fn print(level: u32, kind: u32, values: &[f64]) {
 }
 
 pub fn print_neumann(level: u32, kind: u32, values: &mut [f64]) {
-    vectors::diff::set_left_neumann_bc(level, values);
+    vectors::diff::set_left_neumann_bc(values);
     line(b"neumann", level, kind, digest(values));
 }
 
@@ -31,29 +31,25 @@ fn result(stencil: u32, level: u32, vector: &[f64], out: &mut [f64]) -> u64 {
 
 // The dissipation, then the radially corrected half dissipation.
 fn twofold(level: u32, kind: u32, vector: &[f64]) {
-    let mut out = [0.0; 514];
+    let mut half = [0.0; 257];
+    let mut out = [0.0; 257];
     let n = vector.len();
     if n <= 257 {
-        let end = n + n;
-        both_results(level, kind, vector, &mut out[0..end]);
+        both_results(level, kind, vector, &mut half[0..n], &mut out[0..n]);
     }
 }
 
-fn both_results(level: u32, kind: u32, vector: &[f64], out: &mut [f64]) {
-    let n = vector.len();
-    vectors::diff::dissipation(level, vector, out);
-    if n <= out.len() {
-        line(b"dissipation", level, kind, digest(&out[0..n]));
-        line(b"corrected", level, kind, digest(&out[n..]));
-    }
+fn both_results(level: u32, kind: u32, vector: &[f64], half: &mut [f64], out: &mut [f64]) {
+    vectors::diff::dissipation(level, vector, half, out);
+    line(b"dissipation", level, kind, digest(out));
+    line(b"corrected", level, kind, digest(half));
 }
 
 pub fn apply(stencil: u32, level: u32, vector: &[f64], out: &mut [f64]) -> Answer {
     match stencil {
         0 => vectors::diff::diff(level, vector, out),
         1 => vectors::diff::diff2(level, vector, out),
-        2 => vectors::diff::diff3_unnormalized(level, vector, out),
-        _ => vectors::diff::dissipation(level, vector, out),
+        _ => vectors::diff::diff3_unnormalized(level, vector, out),
     }
 }
 

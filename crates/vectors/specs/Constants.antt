@@ -2,7 +2,12 @@
 use mathlib.Core.Path.{_≡_, refl}
 use mathlib.Core.Bool.{false}
 use Prim.Native.Nat.{ℕ}
-use lib.Ieee.{Float, binary64, round, ofBits}
+use lib.IntN.{pos}
+use lib.Ieee.{Float, binary64, round, ofBits, ofInt}
+
+-- a whole number as a float
+abbrev pub whole : ℕ → Float
+whole k = ofInt binary64 (pos k)
 
 -- the float nearest to a / b
 abbrev pub nearestTo : ℕ → ℕ → Float

@@ -3,11 +3,11 @@ use mathlib.Core.List.{List}
 use Prim.Native.Nat.{ℕ}
 use lib.ListN.{length}
 use lib.Ieee.{Float, binary64, sub, mul, div}
-use Rattle.vectors.specs.Constants.{dissipationFactor}
+use Rattle.vectors.specs.Constants.{whole, dissipationFactor}
 use Rattle.vectors.specs.Grid.{spacingOf, pointOf}
 use Rattle.vectors.specs.Memory.{tab}
 use Rattle.vectors.specs.Powers.{squareOf, fourthPowerOf}
-use Rattle.vectors.specs.Stencil.{whole, diff3At}
+use Rattle.vectors.specs.Stencil.{diff3At}
 
 -- c at coordinate r: (1 - r²)⁴
 unfoldable pub radialCorrectionOf : Float → Float

@@ -5,12 +5,12 @@ use Prim.Native.Nat.{ℕ, _<_}
 use native.Mathlib.Omega.{arith}
 use lib.ListN.{length, getD}
 use lib.Ieee.{Float, nan, binary64, mul, div, ofBits, ofInt}
-use Rattle.vectors.specs.Constants.{dissipationFactor, constant-bits}
+use Rattle.vectors.specs.Constants.{whole, dissipationFactor, constant-bits}
 use Rattle.vectors.specs.Dissipation.{radialCorrectionOf, halfDissipationAt, halfDissipationOf, dissipationScale, dissipationAt, dissipationOf}
 use Rattle.vectors.specs.Grid.{spacingOf, pointOf}
 use Rattle.vectors.specs.Memory.{tab}
 use Rattle.vectors.specs.MemoryLaws.{length-tab, getD-tab, tab-same}
-use Rattle.vectors.specs.Stencil.{whole, diff3At, diff3Of}
+use Rattle.vectors.specs.Stencil.{diff3At, diff3Of}
 use Rattle.vectors.specs.StencilLaws.{length-diff3Of}
 
 -- c × u

@@ -4,6 +4,7 @@ use Prim.Native.Nat.{ℕ, _-_, _*_, _/_, _%_, _^_}
 use lib.IntN.{ℤ, pos, negsuc, negℤ}
 use lib.Ieee.{Float, nan, inf, fin, binary64, up, down, add, sub, mul, div, le, ofInt, ofBits, isNan}
 use lib.Ieee.Nearest.{closest}
+use Rattle.vectors.specs.Constants.{whole}
 use Rattle.vectors.specs.ExpTable.{mantissaOf}
 
 -- "the whole number nearest .., ties to even": `closest a b` is the one nearest to a/b, and `fin s m e`, which is ± m × 2^e, is ± (m × up e)/(down e).
@@ -24,10 +25,6 @@ abbrev pub quotient256 : ℤ → ℤ
 quotient256 (pos n) = pos (n / 256)
 quotient256 (negsuc n) = negsuc (n / 256)
 
--- a whole number as a float
-abbrev pub floatOf : ℕ → Float
-floatOf n = ofInt binary64 (pos n)
-
 -- "Bits in hexadecimal: a 3FF71547652B82FE, b 3FE62E42FEE00000, c 3DEA39EF35793C76"
 abbrev pub constantA : Float
 constantA = ofBits binary64 0x3FF71547652B82FE
@@ -41,28 +38,28 @@ constantC = ofBits binary64 0x3DEA39EF35793C76
 -- "N .. is the whole number nearest x × (256 × a)"
 unfoldable pub multipleOf : Float → ℤ
 unfolding nearestWhole
-multipleOf x = nearestWhole (mul binary64 x (mul binary64 (floatOf 256) constantA))
+multipleOf x = nearestWhole (mul binary64 x (mul binary64 (whole 256) constantA))
 
 -- "r = (x - N × (b/256)) - N × (c/256)", N given as a float
 unfoldable pub reducedArgument : Float → Float → Float
 reducedArgument x n =
     sub binary64
-    (sub binary64 x (mul binary64 n (div binary64 constantB (floatOf 256))))
-    (mul binary64 n (div binary64 constantC (floatOf 256)))
+    (sub binary64 x (mul binary64 n (div binary64 constantB (whole 256))))
+    (mul binary64 n (div binary64 constantC (whole 256)))
 
 -- "p = 1 + r(1 + r(1/2 + r(1/6 + r × (1/24)))), innermost first"
 unfoldable pub series : Float → Float
 series r =
-    add binary64 (floatOf 1) (mul binary64 r
-    (add binary64 (floatOf 1) (mul binary64 r
-    (add binary64 (div binary64 (floatOf 1) (floatOf 2)) (mul binary64 r
-    (add binary64 (div binary64 (floatOf 1) (floatOf 6)) (mul binary64 r
-    (div binary64 (floatOf 1) (floatOf 24)))))))))
+    add binary64 (whole 1) (mul binary64 r
+    (add binary64 (whole 1) (mul binary64 r
+    (add binary64 (div binary64 (whole 1) (whole 2)) (mul binary64 r
+    (add binary64 (div binary64 (whole 1) (whole 6)) (mul binary64 r
+    (div binary64 (whole 1) (whole 24)))))))))
 
 -- "T_j is m/2^52", which this division does not round (`fraction-exact` in ExpLaws)
 unfoldable pub fractionOf : ℕ → Float
 unfolding mantissaOf
-fractionOf j = div binary64 (floatOf (mantissaOf j)) (floatOf (2 ^ 52))
+fractionOf j = div binary64 (whole (mantissaOf j)) (whole (2 ^ 52))
 
 -- "(T_j × p) × 2^k": `fin false 1 k` is 2^k
 unfoldable pub scaledSeries : Float → ℤ → Float
@@ -74,6 +71,6 @@ unfoldable pub expOf : Float → Float
 unfolding scaledSeries multipleOf
 expOf x =
     cond (isNan x) nan
-    (cond (le (floatOf 709) x) (inf false)
+    (cond (le (whole 709) x) (inf false)
     (cond (le x (ofInt binary64 (negsuc 707))) (fin false 0 (pos 0))
     (scaledSeries x (multipleOf x))))

@@ -4,13 +4,17 @@ use mathlib.Core.Path.{_≡_, refl, sym, ap, _∙_, subst}
 use mathlib.Core.Logic.{_⊎_, inl, inr}
 use mathlib.Core.Bool.{Bool, true, false, cond, _&&_}
 use mathlib.Core.List.{List, [], _∷_, List·Memᴰ, List·Memᴰ·not-nil, List·Memᴰ·cases-cons}
-use Prim.Native.Nat.{ℕ, zero, suc, _≤_, _<_}
+use Prim.Native.Nat.{ℕ, zero, suc, _+_, _-_, _≤_, _<_}
 use native.Mathlib.Nat.{le-of-suc-le-suc, not-suc-le-zero, eq-or-lt-of-le}
 use lib.IntN.{ℤ, pos, negsuc, _+ℤ_, _*ℤ_, one, pow}
 use lib.Dec.{T, eqb, eqb→eq}
 use lib.Ieee.Fits.{and-l, and-r}
 use lib.ListN.{getD}
-use Rattle.vectors.specs.Stencil.{Kind, first, second, third, Row, offsetOf, diffLeft0, diffLeft1, diffInner, diffRight1, diffRight0, diff2Left0, diff2Left1, diff2Inner, diff2Right1, diff2Right0, diff3Row}
+use lib.Ieee.{minus}
+use native.Mathlib.Omega.{arith}
+use borrow.Author.Tests.{le-leb, lt-leb, le-ltb}
+use Rattle.vectors.specs.MemoryLaws.{side}
+use Rattle.vectors.specs.Stencil.{Kind, first, second, third, Row, offsetOf, placeOf, diffLeft0, diffLeft1, diffInner, diffRight1, diffRight0, diff2Left0, diff2Left1, diff2Inner, diff2Right1, diff2Right0, diff3Row}
 
 -- every row, with its kind and its first offset
 unfoldable pub rows : List Row
@@ -97,3 +101,28 @@ in-list (r ∷ list) t row m q h = elim (List·Memᴰ·cases-cons m) [
 -- every row of the list meets the conditions of its kind
 pub moment-conditions : (row : Row) → List·Memᴰ row rows → (q : ℕ) → q ≤ lastMoment (row .kind) → momentOf row q ≡ getD (momentsOf (row .kind)) q (pos 0)
 moment-conditions = in-list rows rows-meet
+
+-- ---- the offset o of a weight is the one at which a row's sum reads it: the place is i + o
+
+plus-minus : (i a b : ℕ) → b ≤ i + a → pos i +ℤ minus a b ≡ pos (i + a - b)
+plus-minus i a b h = elim (side a b) [
+  | inl l ↦
+      let e : i - suc (b - suc a) ≡ i + a - b = omega arith in
+      simp (lt-leb b a l, le-ltb i (suc (b - suc a)) (omega arith), e)
+  | inr l ↦
+      let e : i + (a - b) ≡ i + a - b = omega arith in
+      simp (le-leb b a l, e)
+]
+
+module _ (row : Row) (i j : ℕ) where
+  pub place-ascending : row .descends ≡ false → row .lead ≤ i + j → pos i +ℤ offsetOf row j ≡ pos (placeOf row i j)
+  place-ascending d h =
+      ap (λ b. pos i +ℤ cond b (minus (row .lead) j) (minus j (row .lead))) d
+      ∙ plus-minus i j (row .lead) h
+      ∙ ap (λ b. pos (cond b (i + row .lead - j) (i + j - row .lead))) (sym d)
+
+  pub place-descending : row .descends ≡ true → j ≤ i + row .lead → pos i +ℤ offsetOf row j ≡ pos (placeOf row i j)
+  place-descending d h =
+      ap (λ b. pos i +ℤ cond b (minus (row .lead) j) (minus j (row .lead))) d
+      ∙ plus-minus i (row .lead) j h
+      ∙ ap (λ b. pos (cond b (i + row .lead - j) (i + j - row .lead))) (sym d)

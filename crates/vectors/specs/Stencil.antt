@@ -6,6 +6,7 @@ use lib.IntN.{ℤ, pos, negsuc}
 use lib.Dec.{eqb, ltb}
 use lib.ListN.{length, getD, drop, set}
 use lib.Ieee.{Float, nan, binary64, add, mul, div, ofInt, minus}
+use Rattle.vectors.specs.Constants.{whole}
 use Rattle.vectors.specs.Memory.{tab}
 
 -- which difference a row belongs to
@@ -90,9 +91,6 @@ unfolding total productsFrom
 sumAt row xs i = total (productsFrom row xs i 0 (row .weights))
 
 -- ---- the differences
-
-abbrev pub whole : ℕ → Float
-whole k = ofInt binary64 (pos k)
 
 -- the rows of a difference: at points 0 and 1, at every point between, at n - 2 and n - 1
 pub record Rows : Type 0 where

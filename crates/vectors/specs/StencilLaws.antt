@@ -9,10 +9,11 @@ use borrow.Author.Tests.{eq-eqb, ne-eqb, lt-ltb, le-ltb}
 use lib.IntN.{ℤ, pos, negsuc}
 use lib.ListN.{length, getD}
 use lib.Ieee.{Float, nan, binary64, add, mul, div, ofInt, ofBits}
+use Rattle.vectors.specs.Constants.{whole}
 use Rattle.vectors.specs.Memory.{tab}
 use Rattle.vectors.specs.MemoryLaws.{length-tab}
 use Rattle.vectors.specs.RowSums.{sum4, sum5, sum5hollow, sum6, sum6descending, sum7hollow}
-use Rattle.vectors.specs.Stencil.{Row, placeOf, productsFrom, plus, total, sumAt, whole, Rows, diffRows, diff2Rows, rowAt, inward, diffLeft0, diffLeft1, diffInner, diffRight1, diffRight0, diff2Left0, diff2Left1, diff2Inner, diff2Right1, diff2Right0, diff3Row, diffAt, diffOf, diff2At, diff2Of, diff3At, diff3Of, neumannOf}
+use Rattle.vectors.specs.Stencil.{Row, placeOf, productsFrom, plus, total, sumAt, Rows, diffRows, diff2Rows, rowAt, inward, diffLeft0, diffLeft1, diffInner, diffRight1, diffRight0, diff2Left0, diff2Left1, diff2Inner, diff2Right1, diff2Right0, diff3Row, diffAt, diffOf, diff2At, diff2Of, diff3At, diff3Of, neumannOf}
 
 -- products of weights with the numbers from place k + j on, to the right
 unfoldable rightward : List ℤ → List Float → ℕ → ℕ → List Float

@@ -10,7 +10,8 @@ use lib.ListN.{getD}
 use lib.Ieee.{binary64, ofBits, ofInt, div, inFloat}
 use denote.Ref.{now}
 use Rattle.vectors.specs.ExpTable.{mantissaOf}
-use Rattle.vectors.specs.Exp.{floatOf, fractionOf}
+use Rattle.vectors.specs.Constants.{whole}
+use Rattle.vectors.specs.Exp.{fractionOf}
 use Rattle.vectors.specs.ExpLaws.{mantissa-below}
 use Rattle.vectors.proofs.Floats.{whole-in}
 use Rattle.vectors.proofs.exp.fraction.Statement.{statement}
@@ -27,7 +28,7 @@ int-to-float-result c =
 
 returns : tie.Need-returns
 unfolding fractionOf ofBits ofInt
-returns c = ap (λ (m : ℕ). div binary64 (floatOf m) (floatOf (2 ^ 52))) (entry (c .before .before))
+returns c = ap (λ (m : ℕ). div binary64 (whole m) (whole (2 ^ 52))) (entry (c .before .before))
 
 pub fraction-spec : {M : Type 1} → statement M
 fraction-spec = tie.close (tie.spec (λ c. search needs) (λ c. search needs) int-to-float-result returns)

@@ -7,6 +7,7 @@ mod use_cases;
 
 use domain::field_vector::FieldVector;
 use domain::grid::Grid;
+use std::cell::RefCell;
 use std::hint::black_box;
 use std::time::Instant;
 
@@ -30,28 +31,20 @@ fn main() {
     }
 }
 
-/// exp mapped over a slice, which each call finds filled anew; the copy is in every time.
+/// exp mapped over one slice, filled anew before each call; the copy is in every time.
 fn exp(length: usize) {
     let source: Vec<f64> = (0..length).map(|i| -4.0 * i as f64 / length as f64).collect();
     let table = ours::fractions();
-    let mut lent = source.clone();
-    let mut library = || {
-        lent.copy_from_slice(&source);
-        unsafe { vectors_exp_all(black_box(lent.as_mut_ptr()), lent.len()) };
-        digest(&lent)
+    let lent = RefCell::new(source.clone());
+    let on_lent = |f: &dyn Fn(&mut [f64])| {
+        let values = &mut *lent.borrow_mut();
+        values.copy_from_slice(&source);
+        f(black_box(values));
+        digest(values)
     };
-    let mut plain = source.clone();
-    let mut rust = || {
-        plain.copy_from_slice(&source);
-        exp_all(table, black_box(&mut plain));
-        digest(&plain)
-    };
-    let mut added = source.clone();
-    let mut rust_adding = || {
-        added.copy_from_slice(&source);
-        exp_all_adding(table, black_box(&mut added));
-        digest(&added)
-    };
+    let mut library = || on_lent(&|values| unsafe { vectors_exp_all(values.as_mut_ptr(), values.len()) });
+    let mut rust = || on_lent(&|values| exp_all(table, values));
+    let mut rust_adding = || on_lent(&|values| exp_all_adding(table, values));
     let name = format!("exp over {length}");
     compare(&name, length, &mut [("library", &mut library), ("Rust", &mut rust), ("Rust, rounding by a sum", &mut rust_adding)]);
 }

@@ -1,2 +1,4 @@
+pub mod Nan
+pub mod NanLaws
 pub mod State
 pub mod StateLaws

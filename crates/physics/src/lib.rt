@@ -1,1 +1,2 @@
 // The physics of the collapse: constraints, equations of motion, and the time step.
+pub mod state;

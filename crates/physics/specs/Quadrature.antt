@@ -16,18 +16,18 @@ pub record Quadrature : Type 0 where
   pub factor : ℕ
   pub divisor : ℕ
   pub span : ℕ
-  -- the highest power on which it is exact, as claimed here
+  -- it is exact on the powers of x up to this one
   pub degree : ℕ
 
--- the integral of the parabola through three points, over the first interval
+-- the quadratic rule: the parabola through three points, integrated over the first interval (the weights of two-step Adams-Moulton)
 unfoldable pub entry1Weights : List ℤ
 entry1Weights = pos 5 ∷ pos 8 ∷ negsuc 0 ∷ []
 
--- Simpson's 1/3 rule
+-- Simpson's 1/3 rule: the parabola through three points, over both intervals
 unfoldable pub simpsonWeights : List ℤ
 simpsonWeights = pos 1 ∷ pos 4 ∷ pos 1 ∷ []
 
--- Simpson's 3/8 rule
+-- Simpson's 3/8 rule: the cubic through four points, over all three intervals; the 3 of 3/8 is the factor
 unfoldable pub eighthsWeights : List ℤ
 eighthsWeights = pos 1 ∷ pos 3 ∷ pos 3 ∷ pos 1 ∷ []
 

@@ -2,7 +2,7 @@
 use mathlib.Core.Path.{_≡_, refl, sym, ap, _∙_}
 use mathlib.Core.List.{List, [], _∷_, _++_, append-nil}
 use Prim.Native.Nat.{ℕ, zero, suc, _+_, _*_, _≤_, _<_}
-use native.Mathlib.Nat.{suc-mul, suc-add, le-of-suc-le-suc, not-suc-le-zero, zero-lt-suc}
+use native.Mathlib.Nat.{suc-mul, suc-add, le-of-suc-le-suc, not-suc-le-zero, mul-le-mul-right}
 use native.Mathlib.Omega.{arith}
 use lib.ListN.{length, getD, take, drop, length-append}
 use lib.Seq.{drop-drop, take-add, take-take, take-at, take-nil, length-take-le, drop-append-add}
@@ -27,28 +27,29 @@ joined : List (List Float) → List Float
 joined [] = []
 joined (xs ∷ more) = xs ++ joined more
 
-record EachOf (n : ℕ) (vectors : List (List Float)) : Type 0 where
-  pub sized : (k : ℕ) → k < length vectors → length (getD vectors k []) ≡ n
+-- each has n numbers
+data EachOf (n : ℕ) : List (List Float) → Type 0 where
+  none : EachOf n []
+  first : {xs : List Float} {more : List (List Float)} → length xs ≡ n → EachOf n more → EachOf n (xs ∷ more)
 
 module _ (n : ℕ) where
-  tail-sized : {xs : List Float} {more : List (List Float)} → EachOf n (xs ∷ more) → EachOf n more
-  tail-sized e = record { sized = λ k h. e .sized (suc k) (omega arith) }
+  length-at : (vectors : List (List Float)) → EachOf n vectors → (k : ℕ) → k < length vectors → length (getD vectors k []) ≡ n
+  length-at [] none k h = absurd (not-suc-le-zero h)
+  length-at (xs ∷ more) (first l e) zero h = l
+  length-at (xs ∷ more) (first l e) (suc k) h = length-at more e k (le-of-suc-le-suc h)
 
   length-joined : (vectors : List (List Float)) → EachOf n vectors → length (joined vectors) ≡ length vectors * n
   unfolding joined
-  length-joined [] e = omega arith
-  length-joined (xs ∷ more) e =
-      length-append xs (joined more) ∙ omega (arith, e .sized 0 (zero-lt-suc (length more)), length-joined more (tail-sized e), suc-mul (length more) n)
+  length-joined [] none = omega arith
+  length-joined (xs ∷ more) (first l e) = length-append xs (joined more) ∙ omega (arith, length-joined more e, suc-mul (length more) n)
 
   part-joined : (vectors : List (List Float)) → EachOf n vectors → (k : ℕ) → k < length vectors → part (k * n) n (joined vectors) ≡ getD vectors k []
   unfolding joined part
-  part-joined [] e k h = absurd (not-suc-le-zero h)
-  part-joined (xs ∷ more) e zero h =
-      let z : 0 * n ≡ 0 = omega arith in
-      rw z (take-at xs (joined more) n (e .sized 0 h))
-  part-joined (xs ∷ more) e (suc k) h =
-      let p : suc k * n ≡ length xs + k * n = omega (arith, e .sized 0 (zero-lt-suc (length more)), suc-mul k n) in
-      rw (p, drop-append-add xs (joined more) (k * n)) (part-joined more (tail-sized e) k (le-of-suc-le-suc h))
+  part-joined [] none k h = absurd (not-suc-le-zero h)
+  part-joined (xs ∷ more) (first l e) zero h = let z : 0 * n ≡ 0 = omega arith in rw z (take-at xs (joined more) n l)
+  part-joined (xs ∷ more) (first l e) (suc k) h =
+      let p : suc k * n ≡ length xs + k * n = omega (arith, suc-mul k n) in
+      rw (p, drop-append-add xs (joined more) (k * n)) (part-joined more e k (le-of-suc-le-suc h))
 
   -- m vectors of a memory from vector k on
   joined-parts : (memory : List Float) (k m : ℕ) → joined (tabFrom k m (λ j. part (j * n) n memory)) ≡ take (m * n) (drop (k * n) memory)
@@ -69,36 +70,21 @@ layOut-joined s = rw (append-nil (s .charSpeed))
 
 each-sized : {n : ℕ} {s : State} → Sized n s → EachOf n (vectors s)
 unfolding vectors
-each-sized {n} {s} z = record { sized = go }
-  where
-    go : (k : ℕ) → k < 8 → length (getD (vectors s) k []) ≡ n
-    go zero h = z .field
-    go (suc zero) h = z .conjMomentum
-    go (suc (suc zero)) h = z .alternateMass
-    go (suc (suc (suc zero))) h = z .energyDensity
-    go (suc (suc (suc (suc zero)))) h = z .mass
-    go (suc (suc (suc (suc (suc zero))))) h = z .radialFactor
-    go (suc (suc (suc (suc (suc (suc zero)))))) h = z .lapse
-    go (suc (suc (suc (suc (suc (suc (suc zero))))))) h = z .charSpeed
-    go (suc (suc (suc (suc (suc (suc (suc (suc k)))))))) h = absurd (omega arith)
+each-sized z =
+    first (z .field) (first (z .conjMomentum) (first (z .alternateMass) (first (z .energyDensity)
+    (first (z .mass) (first (z .radialFactor) (first (z .lapse) (first (z .charSpeed) none)))))))
 
-module _ {n : ℕ} {s : State} (z : Sized n s) where
-  pub length-vector : (k : ℕ) → k < 8 → length (vectorOf s k) ≡ n
-  unfolding vectorOf vectors
-  length-vector k h = each-sized z .sized k h
+ofVectors : Float → (ℕ → List Float) → State
+ofVectors time v =
+    record { time = time; field = v 0; conjMomentum = v 1; alternateMass = v 2; energyDensity = v 3; mass = v 4; radialFactor = v 5; lapse = v 6; charSpeed = v 7 }
 
-  pub length-layOut : length (layOut s) ≡ 8 * n
-  unfolding vectors
-  length-layOut = ap length (layOut-joined s) ∙ length-joined n (vectors s) (each-sized z)
-
-  pub part-layOut : (k : ℕ) → k < 8 → part (k * n) n (layOut s) ≡ vectorOf s k
-  unfolding vectorOf vectors
-  part-layOut k h = ap (part (k * n) n) (layOut-joined s) ∙ part-joined n (vectors s) (each-sized z) k h
-
-  pub stateIn-layOut : stateIn n (s .time) (layOut s) ≡ s
-  unfolding stateIn vectorOf
-  stateIn-layOut =
-      rw (part-layOut 0 (omega arith), part-layOut 1 (omega arith), part-layOut 2 (omega arith), part-layOut 3 (omega arith), part-layOut 4 (omega arith), part-layOut 5 (omega arith), part-layOut 6 (omega arith), part-layOut 7 (omega arith))
+-- a state is its time and its eight vectors
+pub same-state : (s t : State) → s .time ≡ t .time → ((k : ℕ) → k < 8 → vectorOf s k ≡ vectorOf t k) → s ≡ t
+unfolding vectorOf ofVectors
+same-state s t e f =
+    let same : ofVectors (s .time) (vectorOf s) ≡ ofVectors (t .time) (vectorOf t) =
+    cc (f 0 (omega arith), f 1 (omega arith), f 2 (omega arith), f 3 (omega arith), f 4 (omega arith), f 5 (omega arith), f 6 (omega arith), f 7 (omega arith)) in
+    same
 
 module _ (n : ℕ) (time : Float) (memory : List Float) where
   pub vector-stateIn : (k : ℕ) → k < 8 → vectorOf (stateIn n time memory) k ≡ part (k * n) n memory
@@ -125,6 +111,23 @@ module _ (n : ℕ) (time : Float) (memory : List Float) where
         charSpeed = length-part (7 * n) n memory (omega arith);
       }
 
+module _ {n : ℕ} {s : State} (z : Sized n s) where
+  pub length-vector : (k : ℕ) → k < 8 → length (vectorOf s k) ≡ n
+  unfolding vectorOf vectors
+  length-vector k h = length-at n (vectors s) (each-sized z) k h
+
+  pub length-layOut : length (layOut s) ≡ 8 * n
+  unfolding vectors
+  length-layOut = ap length (layOut-joined s) ∙ length-joined n (vectors s) (each-sized z)
+
+  pub part-layOut : (k : ℕ) → k < 8 → part (k * n) n (layOut s) ≡ vectorOf s k
+  unfolding vectorOf vectors
+  part-layOut k h = ap (part (k * n) n) (layOut-joined s) ∙ part-joined n (vectors s) (each-sized z) k h
+
+  pub stateIn-layOut : stateIn n (s .time) (layOut s) ≡ s
+  unfolding stateIn
+  stateIn-layOut = same-state (stateIn n (s .time) (layOut s)) s refl (λ k h. vector-stateIn n (s .time) (layOut s) k h ∙ part-layOut k h)
+
 -- ---- a layout in a longer memory
 part-take : (a n m : ℕ) (xs : List Float) → a + n ≤ m → part a n (take m xs) ≡ part a n xs
 unfolding part
@@ -141,8 +144,11 @@ take-put m ys xs e = take-at ys (drop (0 + length ys) xs) m e
 pub stateIn-take : (n : ℕ) (time : Float) (memory : List Float) → stateIn n time (take (8 * n) memory) ≡ stateIn n time memory
 unfolding stateIn
 stateIn-take n time memory =
-    let same : (k : ℕ) → k * n + n ≤ 8 * n → part (k * n) n (take (8 * n) memory) ≡ part (k * n) n memory = λ k h. part-take (k * n) n (8 * n) memory h in
-    rw (same 0 (omega arith), same 1 (omega arith), same 2 (omega arith), same 3 (omega arith), same 4 (omega arith), same 5 (omega arith), same 6 (omega arith), same 7 (omega arith))
+    let front = take (8 * n) memory in
+    same-state (stateIn n time front) (stateIn n time memory) refl
+    (λ k h. vector-stateIn n time front k h
+    ∙ part-take (k * n) n (8 * n) memory (omega (arith, suc-mul k n, mul-le-mul-right {m = suc k} n h))
+    ∙ sym (vector-stateIn n time memory k h))
 
 pub stateIn-same : (n : ℕ) (time : Float) (xs ys : List Float) → take (8 * n) xs ≡ take (8 * n) ys → stateIn n time xs ≡ stateIn n time ys
 stateIn-same n time xs ys e = sym (stateIn-take n time xs) ∙ ap (stateIn n time) e ∙ stateIn-take n time ys

@@ -1,4 +1,4 @@
-// From domain/state.rs: `total_energy`; and what a run asks of a state's vectors: whether one holds a NaN, and that they are stored.
+// From domain/state.rs: `total_energy`. With it what a run does with a state that a memory holds: look for a NaN, and store it.
 ghost use mathlib.Core.Path.{_≡_};
 ghost use mathlib.Core.Bool.{_||_};
 ghost use Prim.Native.Nat.{_≤_};
@@ -15,14 +15,14 @@ use vectors::answer::and_also;
 use vectors::answer::checked;
 use vectors::grid::length_at_discretization;
 
-// Whether x or y holds, with no branch left to the caller.
-fn or_else(x: bool, y: bool) -> bool
-    ensures { λ r. ⌜ r ≡ (x || y) ⌝ }
+// The total energy: the last number of the mass, NaN where there is none.
+pub fn total_energy(mass: &[f64]) -> f64
+    ensures { λ r. ⌜ r ≡ lastOf (now (mass .entry)) ⌝ }
 {
-    if x {
-        return true;
+    if 0 < mass.len() {
+        return mass[mass.len() - 1];
     }
-    y
+    0.0 / 0.0
 }
 
 // Whether the time or a number of the vectors is a NaN, the one value that differs from itself.
@@ -39,26 +39,14 @@ pub fn has_nan(time: f64, vectors: &[f64]) -> bool
     found
 }
 
-// The total energy: the last number of the mass, NaN where there is none.
-pub fn total_energy(mass: &[f64]) -> f64
-    ensures { λ r. ⌜ r ≡ lastOf (now (mass .entry)) ⌝ }
+// Whether x or y holds, with no branch left to the caller.
+fn or_else(x: bool, y: bool) -> bool
+    ensures { λ r. ⌜ r ≡ (x || y) ⌝ }
 {
-    if 0 < mass.len() {
-        return mass[mass.len() - 1];
+    if x {
+        return true;
     }
-    0.0 / 0.0
-}
-
-// Copies the first count numbers.
-fn copy(count: usize, from: &[f64], state: &mut [f64])
-    requires { ⌜ (count ≤ length (now from)) × (count ≤ length (now state)) ⌝ }
-    ensures { λ _. ⌜ now (state .exit) ≡ put 0 (take count (now (from .entry))) (now (state .entry)) ⌝ }
-{
-    let mut at = 0;
-    while at < count {
-        state[at] = from[at];
-        at += 1;
-    }
+    y
 }
 
 // Stores a state that is laid out at the front of `from`.
@@ -75,5 +63,17 @@ pub fn store(level: u32, from: &[f64], state: &mut [f64]) -> Answer
         }
         Answer::RefusedLevel => Answer::RefusedLevel,
         Answer::RefusedLength => Answer::RefusedLength,
+    }
+}
+
+// Copies the first count numbers; what follows them stays.
+fn copy(count: usize, from: &[f64], state: &mut [f64])
+    requires { ⌜ (count ≤ length (now from)) × (count ≤ length (now state)) ⌝ }
+    ensures { λ _. ⌜ now (state .exit) ≡ put 0 (take count (now (from .entry))) (now (state .entry)) ⌝ }
+{
+    let mut at = 0;
+    while at < count {
+        state[at] = from[at];
+        at += 1;
     }
 }

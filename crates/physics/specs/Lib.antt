@@ -1,1 +1,13 @@
+pub mod Constraints
+pub mod Equations
+pub mod Fills
+pub mod InitialState
+pub mod Integral
+pub mod IntegralLaws
+pub mod PassLaws
+pub mod Passes
+pub mod Rk4
+pub mod Slots
 pub mod State
+pub mod Vector
+pub mod VectorLaws

@@ -1,1 +1,4 @@
 // The physics of the collapse: constraints, equations of motion, and the time step.
+mod constraint_computer;
+pub mod integration;
+mod slots;

@@ -1,0 +1,129 @@
+-- What each pass over the slots of work memory makes of them. Slots 0 to 7 are a state in the order of 01, 8 the radial gradient, 9 and 10 scratch,
+-- 11 and 12 the half dissipations of field and momentum, 13 to 15 the rates, 16 to 18 their sums, 19 the points, 20 the radial correction.
+use mathlib.Core.Path.{_≡_}
+use mathlib.Core.Bool.{true, cond}
+use mathlib.Core.List.{List, map}
+use Prim.Native.Nat.{ℕ, _+_, _*_, _%_, _≤_}
+use lib.Dec.{eqb}
+use lib.ListN.{length}
+use lib.Ieee.{Float, binary64, div}
+use Rattle.vectors.specs.Dissipation.{radialCorrectionOf}
+use Rattle.vectors.specs.Exp.{expOf}
+use Rattle.vectors.specs.Grid.{pointsOf, spacingOf, pointOf}
+use Rattle.vectors.specs.Memory.{tab}
+use Rattle.vectors.specs.MemoryLaws.{apart}
+use Rattle.vectors.specs.Powers.{reciprocalOf}
+use Rattle.vectors.specs.Stencil.{whole, diffOf}
+use Rattle.physics.specs.Constraints.{integrandAt, normalisedOf, radialFactorAt, energyDensityAt, massAt, radialGradientOf, lapseOf, radialFactorOf, charSpeedOf, energyDensityOf, massOf}
+use Rattle.physics.specs.Integral.{integralOf}
+use Rattle.physics.specs.Slots.{Slots, slots, upd}
+use Rattle.physics.specs.Vector.{at}
+
+-- ---- what passes ask of memory
+
+-- room for the slots
+pub record Room (n len : ℕ) : Type 0 where
+  pub many : 9 ≤ n
+  pub odd : n % 2 ≡ 1
+  pub fits : 21 * n ≤ len
+
+-- room for the slots, on the grid of a level, whose points and radial correction stand in theirs
+pub record Ready (level n : ℕ) (w : List Float) : Type 0 where
+  pub many : 9 ≤ n
+  pub odd : n % 2 ≡ 1
+  pub fits : 21 * n ≤ length w
+  pub grid : n ≡ pointsOf level
+  pub points : at (slots n w 19) ≡ pointOf level
+  pub correction : at (slots n w 20) ≡ (λ i. radialCorrectionOf (pointOf level i))
+
+-- n numbers from from on, and n from to on that lie apart from them
+pub record Inside (len from to n : ℕ) : Type 0 where
+  pub source : from + n ≤ len
+  pub target : to + n ≤ len
+  pub far : apart to n from n ≡ true
+
+-- room for the slots, and n numbers from to on that lie apart from slot 9
+pub record Target (n len to : ℕ) : Type 0 where
+  pub many : 9 ≤ n
+  pub odd : n % 2 ≡ 1
+  pub fits : 21 * n ≤ len
+  pub target : to + n ≤ len
+  pub far : apart to n (9 * n) n ≡ true
+
+-- ---- the grid
+abbrev pub grids : ℕ → ℕ → Slots → Slots
+grids level n S = upd 20 (tab n (λ i. radialCorrectionOf (pointOf level i))) (upd 19 (tab n (pointOf level)) S)
+
+-- ---- the constraints, pass by pass
+
+abbrev pub gradients : Float → Slots → Slots
+gradients h S = upd 8 (diffOf h (S 0)) S
+
+-- with r i the coordinate of point i
+abbrev pub integrandVal : (ℕ → Float) → List Float → List Float → ℕ → Float
+integrandVal r gradient momentum i = integrandAt (r i) (at gradient i) (at momentum i)
+
+abbrev pub integrands : ℕ → Slots → Slots
+integrands n S = upd 9 (tab n (integrandVal (at (S 19)) (S 8) (S 1))) S
+
+-- the log lapse, and the lapse before it is normalised
+abbrev pub logLapses : Float → Slots → Slots
+logLapses h S = upd 6 (integralOf h (S 9)) S
+
+abbrev pub exps : Slots → Slots
+exps S = upd 6 (map expOf (S 6)) S
+
+abbrev pub normals : Slots → Slots
+normals S = upd 9 (map reciprocalOf (normalisedOf (S 6))) (upd 6 (normalisedOf (S 6)) S)
+
+-- the four passes of the lapse in a row
+abbrev pub lapseOn : ℕ → Float → (ℕ → Float) → List Float → List Float → List Float
+lapseOn n h r gradient momentum = normalisedOf (map expOf (integralOf h (tab n (integrandVal r gradient momentum))))
+
+abbrev pub lapses : ℕ → Float → Slots → Slots
+lapses n h S = let lapse = lapseOn n h (at (S 19)) (S 8) (S 1) in upd 9 (map reciprocalOf lapse) (upd 6 lapse S)
+
+abbrev pub integrals : Float → Slots → Slots
+integrals h S = upd 10 (integralOf h (S 9)) S
+
+abbrev pub radialVal : (ℕ → Float) → List Float → List Float → Float → ℕ → Float
+radialVal r lapse integral first i = cond (eqb i 0) (whole 1) (radialFactorAt (at lapse i) (r i) (at integral i) first)
+
+abbrev pub speedVal : (ℕ → Float) → List Float → List Float → Float → ℕ → Float
+speedVal r lapse integral first i = div binary64 (radialVal r lapse integral first i) (at lapse i)
+
+abbrev pub radials : ℕ → Slots → Slots
+radials n S = upd 7 (tab n (speedVal (at (S 19)) (S 6) (S 10) (at (S 10) 0))) (upd 5 (tab n (radialVal (at (S 19)) (S 6) (S 10) (at (S 10) 0))) S)
+
+abbrev pub radialFactors : ℕ → Float → Slots → Slots
+radialFactors n h S = radials n (integrals h S)
+
+abbrev pub energyVal : (ℕ → Float) → List Float → List Float → ℕ → Float
+energyVal r gradient momentum i = energyDensityAt (r i) (at gradient i) (at momentum i)
+
+abbrev pub massVal : (ℕ → Float) → List Float → ℕ → Float
+massVal r radialFactor i = massAt (r i) (at radialFactor i)
+
+abbrev pub energies : ℕ → Slots → Slots
+energies n S = upd 4 (tab n (massVal (at (S 19)) (S 5))) (upd 3 (tab n (energyVal (at (S 19)) (S 8) (S 1))) S)
+
+-- ---- the constraints, by their definitions
+
+abbrev pub lapseIn : ℕ → Slots → List Float
+lapseIn level S = lapseOf level (radialGradientOf level (S 0)) (S 1)
+
+abbrev pub radialFactorIn : ℕ → Slots → List Float
+radialFactorIn level S = radialFactorOf level (lapseIn level S)
+
+abbrev pub constraints : ℕ → Slots → Slots
+constraints level S =
+    upd 7 (charSpeedOf level (radialFactorIn level S) (lapseIn level S))
+    (upd 5 (radialFactorIn level S)
+    (upd 10 (integralOf (spacingOf level) (map reciprocalOf (lapseIn level S)))
+    (upd 9 (map reciprocalOf (lapseIn level S))
+    (upd 6 (lapseIn level S)
+    (upd 8 (radialGradientOf level (S 0)) S)))))
+
+abbrev pub fullConstraints : ℕ → Slots → Slots
+fullConstraints level S =
+    upd 4 (massOf level (radialFactorIn level S)) (upd 3 (energyDensityOf level (radialGradientOf level (S 0)) (S 1)) (constraints level S))

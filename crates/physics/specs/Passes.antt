@@ -3,18 +3,20 @@
 use mathlib.Core.Path.{_≡_}
 use mathlib.Core.Bool.{true, cond}
 use mathlib.Core.List.{List, map}
-use Prim.Native.Nat.{ℕ, _+_, _*_, _%_, _≤_}
+use Prim.Native.Nat.{ℕ, _+_, _-_, _*_, _%_, _≤_, _<_}
 use lib.Dec.{eqb}
 use lib.ListN.{length}
-use lib.Ieee.{Float, binary64, div}
-use Rattle.vectors.specs.Dissipation.{radialCorrectionOf}
+use lib.Ieee.{Float, binary64, add, mul, div}
+use Rattle.vectors.specs.Dissipation.{radialCorrectionOf, halfDissipationOf}
 use Rattle.vectors.specs.Exp.{expOf}
 use Rattle.vectors.specs.Grid.{pointsOf, spacingOf, pointOf}
 use Rattle.vectors.specs.Memory.{tab}
 use Rattle.vectors.specs.MemoryLaws.{apart}
 use Rattle.vectors.specs.Powers.{reciprocalOf}
-use Rattle.vectors.specs.Stencil.{whole, diffOf}
-use Rattle.physics.specs.Constraints.{integrandAt, normalisedOf, radialFactorAt, energyDensityAt, massAt, radialGradientOf, lapseOf, radialFactorOf, charSpeedOf, energyDensityOf, massOf}
+use Rattle.vectors.specs.Stencil.{whole, diffOf, diff2Of, diff3At}
+use Rattle.vectors.specs.StencilLaws.{Window}
+use Rattle.physics.specs.Constraints.{Constraints, integrandAt, normalisedOf, radialFactorAt, energyDensityAt, massAt, radialGradientOf, lapseOf, radialFactorOf, charSpeedOf, energyDensityOf, massOf}
+use Rattle.physics.specs.Equations.{fieldRateAt, momentumRateAt, originRateAt, massRateAt, dtFieldOf, dtConjMomentumOf, dtAlternateMassOf, boundedOf}
 use Rattle.physics.specs.Integral.{integralOf}
 use Rattle.physics.specs.Slots.{Slots, slots, upd}
 use Rattle.physics.specs.Vector.{at}
@@ -127,3 +129,96 @@ constraints level S =
 abbrev pub fullConstraints : ℕ → Slots → Slots
 fullConstraints level S =
     upd 4 (massOf level (radialFactorIn level S)) (upd 3 (energyDensityOf level (radialGradientOf level (S 0)) (S 1)) (constraints level S))
+
+-- ---- the equations of motion, pass by pass
+
+-- with c i the radial correction at point i
+abbrev pub halfVal : (ℕ → Float) → List Float → ℕ → Float
+halfVal c xs i = mul binary64 (c i) (diff3At xs i)
+
+unfoldable pub halfOn : (ℕ → Float) → List Float → List Float
+unfolding tab
+halfOn c xs = tab (length xs) (halfVal c xs)
+
+abbrev pub halves : Slots → Slots
+halves S = upd 12 (halfOn (at (S 20)) (S 1)) (upd 11 (halfOn (at (S 20)) (S 0)) S)
+
+abbrev pub seconds : Float → Slots → Slots
+seconds h S = upd 9 (diff2Of h (S 0)) S
+
+-- scale times the third difference of the half dissipation
+abbrev pub dampingVal : Float → List Float → ℕ → Float
+dampingVal scale half i = mul binary64 scale (diff3At half i)
+
+abbrev pub fieldRateVal : Float → List Float → List Float → List Float → ℕ → Float
+fieldRateVal scale charSpeed momentum half i = add binary64 (fieldRateAt (at charSpeed i) (at momentum i)) (dampingVal scale half i)
+
+abbrev pub momentumRateVal : (ℕ → Float) → Float → List Float → List Float → List Float → List Float → List Float → List Float → ℕ → Float
+momentumRateVal r scale charSpeed second radialFactor first lapse half i =
+    add binary64
+    (cond (eqb i 0) (originRateAt (at second i) (at lapse i)) (momentumRateAt (at charSpeed i) (at second i) (at radialFactor i) (at first i) (r i) (at lapse i)))
+    (dampingVal scale half i)
+
+abbrev pub massRateVal : (ℕ → Float) → List Float → List Float → List Float → List Float → ℕ → Float
+massRateVal r radialFactor lapse gradient momentum i = massRateAt (r i) (at radialFactor i) (at lapse i) (at gradient i) (at momentum i)
+
+abbrev pub fieldRateIn : Float → Slots → ℕ → Float
+fieldRateIn scale S = fieldRateVal scale (S 7) (S 1) (S 11)
+
+abbrev pub momentumRateIn : Float → Slots → ℕ → Float
+momentumRateIn scale S = momentumRateVal (at (S 19)) scale (S 7) (S 9) (S 5) (S 8) (S 6) (S 12)
+
+abbrev pub massRateIn : Slots → ℕ → Float
+massRateIn S = massRateVal (at (S 19)) (S 5) (S 6) (S 8) (S 1)
+
+abbrev pub fieldRates : ℕ → Float → Slots → Slots
+fieldRates n scale S = upd 13 (tab n (fieldRateIn scale S)) S
+
+abbrev pub momentumRates : ℕ → Float → Slots → Slots
+momentumRates n scale S = upd 14 (tab n (momentumRateIn scale S)) S
+
+abbrev pub massRates : ℕ → Slots → Slots
+massRates n S = upd 15 (tab n (massRateIn S)) S
+
+abbrev pub rates : ℕ → Float → Slots → Slots
+rates n scale S = massRates n (momentumRates n scale (fieldRates n scale S))
+
+-- points lo to hi, the seven numbers of whose third difference begin back before them
+pub record Run (n lo hi back : ℕ) : Type 0 where
+  pub order : lo ≤ hi
+  pub within : hi ≤ n
+  pub first : back ≤ lo
+  pub windows : (i : ℕ) → lo ≤ i → i < hi → Window n i back
+
+-- room for the slots, and n numbers from from on and from to on that lie apart from them and from slot 20
+pub record HalfRun (n len from to : ℕ) : Type 0 where
+  pub many : 9 ≤ n
+  pub fits : 21 * n ≤ len
+  pub source : from + n ≤ len
+  pub target : to + n ≤ 20 * n
+  pub far : apart to n from n ≡ true
+
+-- ---- the equations of motion, by their definitions
+
+-- ready, with the gradient of slot 0 in slot 8
+pub record ReadyEquations (level n : ℕ) (w : List Float) : Type 0 where
+  pub many : 9 ≤ n
+  pub odd : n % 2 ≡ 1
+  pub fits : 21 * n ≤ length w
+  pub ready : Ready level n w
+  pub gradient : slots n w 8 ≡ radialGradientOf level (slots n w 0)
+
+abbrev pub constraintsIn : Slots → Constraints
+constraintsIn S = record { energyDensity = S 3; mass = S 4; radialFactor = S 5; lapse = S 6; charSpeed = S 7 }
+
+abbrev pub derivatives : ℕ → Slots → Slots
+derivatives level S =
+    upd 15 (dtAlternateMassOf level (S 0) (S 1) (constraintsIn S))
+    (upd 14 (dtConjMomentumOf level (S 0) (S 1) (constraintsIn S))
+    (upd 13 (dtFieldOf level (S 0) (S 1) (constraintsIn S))
+    (upd 9 (diff2Of (spacingOf level) (S 0))
+    (upd 12 (halfDissipationOf level (S 1)) (upd 11 (halfDissipationOf level (S 0)) S)))))
+
+-- boundary values
+abbrev pub bounds : Slots → Slots
+bounds S = upd 1 (boundedOf (S 1)) (upd 0 (boundedOf (S 0)) S)

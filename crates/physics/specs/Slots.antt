@@ -94,6 +94,9 @@ module _ (n : ℕ) {i : ℕ} {E xs : List Float} where
   unfolding slots
   reads a k j F h e l = filled-at n (k * n) n j nan F h (slots-apart n a k e) l
 
+  pub reads-first : {g : ℕ → Float} (a k : ℕ) → Filled (a * n) i g E xs → i ≤ n → eqb k a ≡ false → 0 < n → getD xs (k * n) nan ≡ getD (slots n E k) 0 nan
+  reads-first a k F h e l = ap (λ (j : ℕ). getD xs j nan) (sym (add-zero (k * n))) ∙ reads a k 0 F h e l
+
   pub reads2 : {f g : ℕ → Float} (a b k j : ℕ) → Filled2 (a * n) (b * n) i f g E xs → i ≤ n → eqb k a ≡ false → eqb k b ≡ false → j < n → getD xs (k * n + j) nan ≡ getD (slots n E k) j nan
   unfolding slots
   reads2 a b k j F h p q l = filled2-at n (k * n) n j nan F h (slots-apart n a k p) (slots-apart n b k q) l

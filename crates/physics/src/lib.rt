@@ -1,4 +1,5 @@
 // The physics of the collapse: constraints, equations of motion, and the time step.
 mod constraint_computer;
+mod equations;
 pub mod integration;
 mod slots;

@@ -9,5 +9,10 @@ pub mod Passes
 pub mod Rk4
 pub mod Slots
 pub mod State
+pub mod StepLaws
+pub mod StepPasses
+pub mod Stepped
 pub mod Vector
 pub mod VectorLaws
+pub mod WorkAfter
+pub mod WorkLaws

@@ -8,6 +8,7 @@ ghost use Rattle.vectors.specs.Memory.{part, put};
 ghost use Rattle.physics.specs.Vector.{advancedOf};
 ghost use Rattle.physics.specs.Slots.{Became};
 ghost use Rattle.physics.specs.Passes.{Room, Inside, grids};
+ghost use Rattle.physics.specs.StepPasses.{TwoInside, advancedBySum};
 use vectors::field_vector::fourth_power;
 use vectors::field_vector::square;
 use vectors::grid::point;
@@ -39,16 +40,36 @@ pub(crate) fn copy_within(from: usize, to: usize, n: usize, w: &mut [f64])
     }
 }
 
-// The vector plus c times the numbers from from on, to those from to on.
-pub(crate) fn advance(vector: &[f64], c: f64, from: usize, to: usize, w: &mut [f64])
-    requires { ⌜ Inside (length (now w)) from to (length (now vector)) ⌝ }
-    ensures { λ _. ⌜ now (w .exit) ≡ put to (advancedOf (length (now (vector .entry))) c (now (vector .entry)) (part from (length (now (vector .entry))) (now (w .entry)))) (now (w .entry)) ⌝ }
+// The vector plus c times the n numbers from from on, to those from to on.
+pub(crate) fn advance(vector: &[f64], c: f64, from: usize, to: usize, n: usize, w: &mut [f64])
+    requires { ⌜ (length (now vector) ≡ n) × Inside (length (now w)) from to n ⌝ }
+    ensures { λ _. ⌜ now (w .exit) ≡ put to (advancedOf n c (now (vector .entry)) (part from n (now (w .entry)))) (now (w .entry)) ⌝ }
 {
-    let n = vector.len();
     let len = w.len();
     let mut i = 0;
     while i < n {
         w[to + i] = vector[i] + c * w[from + i];
+        i += 1;
+    }
+}
+
+// The vector plus c times the sum of the n numbers from first on and from second on, to those from to on.
+pub(crate) fn advance_by_sum(
+    vector: &[f64],
+    c: f64,
+    first: usize,
+    second: usize,
+    to: usize,
+    n: usize,
+    w: &mut [f64],
+)
+    requires { ⌜ (length (now vector) ≡ n) × TwoInside (length (now w)) first second to n ⌝ }
+    ensures { λ _. ⌜ now (w .exit) ≡ put to (advancedBySum n c (now (vector .entry)) (part first n (now (w .entry))) (part second n (now (w .entry)))) (now (w .entry)) ⌝ }
+{
+    let len = w.len();
+    let mut i = 0;
+    while i < n {
+        w[to + i] = vector[i] + c * (w[first + i] + w[second + i]);
         i += 1;
     }
 }

@@ -1,6 +1,9 @@
+pub mod Built
 pub mod Constraints
 pub mod Equations
 pub mod Fills
+pub mod InitialLaws
+pub mod InitialPasses
 pub mod InitialState
 pub mod Integral
 pub mod IntegralLaws

@@ -3,3 +3,4 @@ mod constraint_computer;
 mod equations;
 pub mod integration;
 mod slots;
+pub mod state_builder;

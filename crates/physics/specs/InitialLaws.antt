@@ -2,11 +2,10 @@
 use mathlib.Core.Path.{_≡_, refl, sym, ap, _∙_, subst}
 use mathlib.Core.Bool.{Bool, true, false, cond}
 use mathlib.Core.List.{List, map}
-use Prim.Native.Nat.{ℕ, _+_, _-_, _*_, _≤_, _<_}
-use native.Mathlib.Omega.{arith}
+use Prim.Native.Nat.{ℕ, _-_, _*_, _≤_}
 use borrow.Author.Tests.{leb-true}
 use borrow.Rule.Slice.PartMut.{putMid}
-use lib.Dec.{eqb, leb}
+use lib.Dec.{eqb}
 use lib.ListN.{length, take, drop}
 use lib.Ieee.{Float, nan, binary64, mul}
 use Rattle.vectors.specs.Exp.{expOf}
@@ -20,7 +19,7 @@ use Rattle.vectors.specs.Stencil.{whole}
 use Rattle.physics.specs.Built.{roomToBuild}
 use Rattle.physics.specs.Constraints.{constraintsOf}
 use Rattle.physics.specs.InitialPasses.{exponentVal, exponents, scales, profileOn, variables, initials}
-use Rattle.physics.specs.InitialState.{exponentAt, waveProfileOf, initialStateOf}
+use Rattle.physics.specs.InitialState.{waveProfileOf, initialStateOf}
 use Rattle.physics.specs.Rk4.{stateOf}
 use Rattle.physics.specs.Slots.{Slots, slots, upd, Became}
 use Rattle.physics.specs.StepLaws.{stateOfSlots, grid-points}

@@ -1,5 +1,8 @@
+pub mod BoundaryLaws
 pub mod Built
+pub mod ConstraintLaws
 pub mod Constraints
+pub mod EquationLaws
 pub mod Equations
 pub mod Fills
 pub mod InitialLaws

@@ -1,13 +1,13 @@
 -- Laws of vectors that are written entry by entry.
 use mathlib.Core.Path.{_≡_, refl, sym, ap, _∙_}
 use mathlib.Core.List.{List, [], _∷_, map}
-use Prim.Native.Nat.{ℕ, _+_, _≤_, _<_}
+use Prim.Native.Nat.{ℕ, _≤_, _<_}
 use native.Mathlib.Omega.{arith}
-use mathlib.Core.Logic.{_⊎_, inl, inr}
+use mathlib.Core.Logic.{inl, inr}
 use lib.ListN.{length, length-map, List·getD-map, List·getD-eq-default}
 use lib.Seq.{ext-getD}
-use lib.Ieee.{Float, nan, binary64, add, mul}
-use Rattle.vectors.specs.Memory.{tab, part}
+use lib.Ieee.{Float, nan}
+use Rattle.vectors.specs.Memory.{tab}
 use Rattle.vectors.specs.MemoryLaws.{length-tab, getD-tab, side}
 use Rattle.physics.specs.Vector.{at, advancedOf}
 

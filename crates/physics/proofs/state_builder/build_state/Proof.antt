@@ -1,8 +1,6 @@
 -- `build_state` meets its contract: four passes.
-use mathlib.Core.Path.{_≡_, refl}
-use Prim.Native.Nat.{_≤_, _+_, _*_}
+use mathlib.Core.Path.{refl}
 use native.Mathlib.Omega.{arith}
-use lib.ListN.{length}
 use Rattle.physics.specs.PassLaws.{ready-after}
 use Rattle.physics.specs.Slots.{slots, slots-apart, length-slot, wrote, both}
 use Rattle.physics.specs.StepLaws.{grid-ready}

@@ -1,5 +1,4 @@
 -- `exponent_at` meets its contract: the bits of its constants are those of the definition's.
-use mathlib.Core.Path.{_≡_, refl}
 use lib.Ieee.{ofBits, ofInt, round}
 use Rattle.physics.specs.InitialState.{exponentAt}
 use borrow.Author.Needs.{needs}

@@ -1,11 +1,11 @@
 -- `initial_variables` meets its contract: three passes.
-use mathlib.Core.Path.{_≡_, refl, ap, _∙_}
+use mathlib.Core.Path.{ap, _∙_}
 use mathlib.Core.List.{map}
-use Prim.Native.Nat.{_≤_, _+_, _*_}
+use Prim.Native.Nat.{_*_}
 use native.Mathlib.Omega.{arith}
-use lib.ListN.{length, length-map}
+use lib.ListN.{length-map}
 use Rattle.vectors.specs.Exp.{expOf}
-use Rattle.physics.specs.Slots.{slots, lent-slot, wrote-back, both, known}
+use Rattle.physics.specs.Slots.{lent-slot, wrote-back, both, known}
 use Rattle.physics.specs.InitialLaws.{variable-passes}
 use borrow.Author.Needs.{needs}
 use Rattle.physics.proofs.state_builder.initial_variables.Statement.{statement}

@@ -1,7 +1,7 @@
 -- `scale_profile` meets its contract.
 use mathlib.Core.Path.{_≡_, refl, ap, _∙_}
 use mathlib.Core.List.{map}
-use Prim.Native.Nat.{_≤_, _<_, _-_, _+_, _*_}
+use Prim.Native.Nat.{_≤_, _-_}
 use native.Mathlib.Omega.{arith}
 use lib.ListN.{length, length-set, length-map}
 use lib.Ieee.{nan, binary64, mul}

@@ -1,4 +1,4 @@
--- Loops that write two or three slots at each turn: fills one over the other, with the laws of `MemoryLaws`.
+-- Loops that write two slots at each turn, or two neighbours in one: fills one over the other, with the laws of `MemoryLaws`.
 use mathlib.Core.Path.{_≡_, refl, sym, ap, _∙_}
 use mathlib.Core.List.{List}
 use mathlib.Core.Bool.{true}
@@ -26,16 +26,9 @@ module _ {A : Type 0} where
   pub record Filled2 (a b i : ℕ) (f g : ℕ → A) (E xs : List A) : Type 0 where
     pub is : xs ≡ fill b i g (fill a i f E)
 
-  pub record Filled3 (a b c i : ℕ) (f g r : ℕ → A) (E xs : List A) : Type 0 where
-    pub is : xs ≡ fill c i r (fill b i g (fill a i f E))
-
   pub filled2-none : (a b : ℕ) (f g : ℕ → A) (E : List A) → Filled2 a b 0 f g E E
   unfolding fill
   filled2-none a b f g E = record { is = refl }
-
-  pub filled3-none : (a b c : ℕ) (f g r : ℕ → A) (E : List A) → Filled3 a b c 0 f g r E E
-  unfolding fill
-  filled3-none a b c f g r E = record { is = refl }
 
   -- a turn
   pub step2 : {a b i : ℕ} {f g : ℕ → A} {E xs : List A} {k l : ℕ} {u v : A} (n : ℕ) → Filled2 a b i f g E xs → i < n → apart a n b n ≡ true
@@ -43,17 +36,6 @@ module _ {A : Type 0} where
   step2 {a} {b} {i} {f} {g} {E} {xs} {k} {l} {u} {v} n F h e p q x y =
       let s = fill-set b i g (fill a i f E) (a + i) (f i) (off a b n i e h) in
       record { is = cc (F .is, s, fill-more a i f E, fill-more b i g (fill a (i + 1) f E)) }
-
-  pub step3 : {a b c i : ℕ} {f g r : ℕ → A} {E xs : List A} {k l m : ℕ} {u v t : A} (n : ℕ) → Filled3 a b c i f g r E xs → i < n
-      → apart a n b n ≡ true → apart a n c n ≡ true → apart b n c n ≡ true
-      → k ≡ a + i → l ≡ b + i → m ≡ c + i → u ≡ f i → v ≡ g i → t ≡ r i → Filled3 a b c (i + 1) f g r E (set (set (set xs k u) l v) m t)
-  step3 {a} {b} {c} {i} {f} {g} {r} {E} {xs} {k} {l} {m} {u} {v} {t} n F h ab ac bc p q o x y z =
-      let w = fill a i f E in
-      let s₁ = fill-set c i r (fill b i g w) (a + i) (f i) (off a c n i ac h) in
-      let s₂ = fill-set b i g w (a + i) (f i) (off a b n i ab h) in
-      let w' = fill a (i + 1) f E in
-      let s₃ = fill-set c i r (fill b i g w') (b + i) (g i) (off b c n i bc h) in
-      record { is = cc (F .is, s₁, s₂, s₃, fill-more a i f E, fill-more b i g w', fill-more c i r (fill b (i + 1) g w')) }
 
   -- a turn that stores two neighbours in one slot
   pub grown-pair : {at i₀ i : ℕ} {g : List A → ℕ → A} {xs₀ xs : List A} {k l : ℕ} {u v : A} → Grown at i₀ i g xs₀ xs → k ≡ at + i → l ≡ at + (i + 1)
@@ -81,14 +63,6 @@ module _ {A : Type 0} where
       ∙ ap (λ (y : List A). getD y i d) (part-fill-apart b i n g (fill a i f E) a n d (omega arith) p)
       ∙ getD-part a n (fill a i f E) i d h ∙ read-above a i f E (a + i) d (omega arith) ∙ sym (getD-part a n E i d h)
 
-  pub filled3-part : {a b c i : ℕ} {f g r : ℕ → A} {E xs : List A} (n o m : ℕ) (d : A) → Filled3 a b c i f g r E xs → i ≤ n → apart a n o m ≡ true → apart b n o m ≡ true → apart c n o m ≡ true → part o m xs ≡ part o m E
-  filled3-part {a} {b} {c} {i} {f} {g} {r} {E} n o m d F h p q s =
-      ap (λ (l : List A). part o m l) (F .is) ∙ part-fill-apart c i n r (fill b i g (fill a i f E)) o m d h s
-      ∙ part-fill-apart b i n g (fill a i f E) o m d h q ∙ part-fill-apart a i n f E o m d h p
-
-  pub filled3-at : {a b c i : ℕ} {f g r : ℕ → A} {E xs : List A} (n o m j : ℕ) (d : A) → Filled3 a b c i f g r E xs → i ≤ n → apart a n o m ≡ true → apart b n o m ≡ true → apart c n o m ≡ true → j < m → getD xs (o + j) d ≡ getD (part o m E) j d
-  filled3-at {a} {b} {c} {i} {f} {g} {r} {E} {xs} n o m j d F h p q s l = sym (getD-part o m xs j d l) ∙ ap (λ (y : List A). getD y j d) (filled3-part n o m d F h p q s)
-
   -- all turns done
   pub filled2-put : {a b i : ℕ} {f g : ℕ → A} {E xs : List A} (n : ℕ) (d : A) → Filled2 a b i f g E xs → i ≡ n → a + n ≤ length E → b + n ≤ length E → xs ≡ put b (tab n g) (put a (tab n f) E)
   filled2-put {a} {b} {i} {f} {g} {E} {xs} n d F e h k =
@@ -97,36 +71,14 @@ module _ {A : Type 0} where
       let F' : xs ≡ fill b n g (fill a n f E) = rw e at (F .is) in
       rw x at F' ∙ fill-put b n g (put a (tab n f) E) d (rw l k)
 
-  pub filled3-put : {a b c i : ℕ} {f g r : ℕ → A} {E xs : List A} (n : ℕ) (d : A) → Filled3 a b c i f g r E xs → i ≡ n → a + n ≤ length E → b + n ≤ length E → c + n ≤ length E
-      → xs ≡ put c (tab n r) (put b (tab n g) (put a (tab n f) E))
-  filled3-put {a} {b} {c} {i} {f} {g} {r} {E} {xs} n d F e h k o =
-      let x = fill-put a n f E d h in
-      let l = length-put-is a n (tab n f) E (length-tab n f) h in
-      let y = fill-put b n g (put a (tab n f) E) d (rw l k) in
-      let l' = length-put-is b n (tab n g) (put a (tab n f) E) (length-tab n g) (rw l k) in
-      let F' : xs ≡ fill c n r (fill b n g (fill a n f E)) = rw e at (F .is) in
-      rw (x, y) at F' ∙ fill-put c n r (put b (tab n g) (put a (tab n f) E)) d (rw (l', l) o)
-
   -- the invariants, as `Grown` of `MemoryLaws`
   pub record Grown2 (a b i₀ i : ℕ) (f g : List A → ℕ → A) (xs₀ xs : List A) : Type 0 where
     pub grow : (E : List A) → Filled2 a b i₀ (f E) (g E) E xs₀ → Filled2 a b i (f E) (g E) E xs
 
-  pub record Grown3 (a b c i₀ i : ℕ) (f g r : List A → ℕ → A) (xs₀ xs : List A) : Type 0 where
-    pub grow : (E : List A) → Filled3 a b c i₀ (f E) (g E) (r E) E xs₀ → Filled3 a b c i (f E) (g E) (r E) E xs
-
   pub grown2-none : (a b i₀ : ℕ) (f g : List A → ℕ → A) (xs₀ : List A) → Grown2 a b i₀ i₀ f g xs₀ xs₀
   grown2-none a b i₀ f g xs₀ = record { grow = λ E F. F }
-
-  pub grown3-none : (a b c i₀ : ℕ) (f g r : List A → ℕ → A) (xs₀ : List A) → Grown3 a b c i₀ i₀ f g r xs₀ xs₀
-  grown3-none a b c i₀ f g r xs₀ = record { grow = λ E F. F }
 
   pub grown2-step : {a b i₀ i : ℕ} {f g : List A → ℕ → A} {xs₀ xs : List A} {k l : ℕ} {u v : A} (n : ℕ) → Grown2 a b i₀ i f g xs₀ xs → i < n → apart a n b n ≡ true → k ≡ a + i → l ≡ b + i
       → ((E : List A) → Filled2 a b i (f E) (g E) E xs → (u ≡ f E i) × (v ≡ g E i)) → Grown2 a b i₀ (i + 1) f g xs₀ (set (set xs k u) l v)
   grown2-step n G h e p q y =
       record { grow = λ E F. let F' = G .grow E F in step2 n F' h e p q (y E F' .0) (y E F' .1) }
-
-  pub grown3-step : {a b c i₀ i : ℕ} {f g r : List A → ℕ → A} {xs₀ xs : List A} {k l m : ℕ} {u v t : A} (n : ℕ) → Grown3 a b c i₀ i f g r xs₀ xs → i < n
-      → apart a n b n ≡ true → apart a n c n ≡ true → apart b n c n ≡ true → k ≡ a + i → l ≡ b + i → m ≡ c + i
-      → ((E : List A) → Filled3 a b c i (f E) (g E) (r E) E xs → (u ≡ f E i) × (v ≡ g E i) × (t ≡ r E i)) → Grown3 a b c i₀ (i + 1) f g r xs₀ (set (set (set xs k u) l v) m t)
-  grown3-step n G h ab ac bc p q o y =
-      record { grow = λ E F. let F' = G .grow E F in step3 n F' h ab ac bc p q o (y E F' .0) (y E F' .1) (y E F' .2) }

@@ -1,5 +1,5 @@
 -- Laws of `integralOf`: its values one after another, as a loop computes them.
-use mathlib.Core.Path.{_≡_, refl, sym, _∙_}
+use mathlib.Core.Path.{_≡_, refl}
 use mathlib.Core.Bool.{cond}
 use mathlib.Core.List.{List}
 use Prim.Native.Nat.{ℕ, suc, _-_, _%_, _≤_}

@@ -1,7 +1,13 @@
 pub mod BlackHole
+pub mod BoundaryLaws
+pub mod Built
+pub mod ConstraintLaws
 pub mod Constraints
+pub mod EquationLaws
 pub mod Equations
 pub mod Fills
+pub mod InitialLaws
+pub mod InitialPasses
 pub mod InitialState
 pub mod Integral
 pub mod IntegralLaws

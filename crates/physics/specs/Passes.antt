@@ -3,7 +3,7 @@
 use mathlib.Core.Path.{_≡_}
 use mathlib.Core.Bool.{true, cond}
 use mathlib.Core.List.{List, map}
-use Prim.Native.Nat.{ℕ, _+_, _-_, _*_, _%_, _≤_, _<_}
+use Prim.Native.Nat.{ℕ, _+_, _*_, _%_, _≤_, _<_}
 use lib.Dec.{eqb}
 use lib.ListN.{length}
 use lib.Ieee.{Float, binary64, add, mul, div}

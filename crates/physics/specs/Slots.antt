@@ -1,19 +1,19 @@
 -- Work memory as slots of n numbers: slot k is what stands from k n on. A pass turns the slots by a function; passes in a row turn them by the functions in a row.
 use mathlib.Core.Path.{_≡_, refl, sym, ap, _∙_}
 use mathlib.Core.List.{List}
-use mathlib.Core.Bool.{Bool, true, false, cond}
-use mathlib.Core.Logic.{_⊎_, inl, inr}
-use Prim.Native.Nat.{ℕ, zero, suc, _+_, _-_, _*_, _≤_, _<_}
+use mathlib.Core.Bool.{true, false, cond}
+use mathlib.Core.Logic.{inl, inr}
+use Prim.Native.Nat.{ℕ, suc, _+_, _-_, _*_, _≤_, _<_}
 use native.Mathlib.Nat.{mul-le-mul-right, suc-mul, add-zero}
 use native.Mathlib.Omega.{arith}
 use lib.Dec.{eqb}
 use lib.ListN.{length, getD, take, drop}
 use lib.Ieee.{Float, nan}
 use borrow.Rule.Slice.PartMut.{putMid}
-use borrow.Author.Tests.{eqb-true, eqb-false, eq-eqb, ne-eqb}
+use borrow.Author.Tests.{eqb-true, eqb-false, eq-eqb}
 use Rattle.vectors.specs.Memory.{part, put}
 use Rattle.vectors.specs.MemoryLaws.{apart, by-cases, side, part-of-put, part-past-put, length-put-is, length-part, apart-left, apart-right, getD-part, Filled, filled-at, filled-part, lent, back}
-use Rattle.physics.specs.Fills.{Filled2, Filled3, filled2-at, filled3-at, filled3-part, filled2-mine}
+use Rattle.physics.specs.Fills.{Filled2, filled2-at, filled2-mine}
 
 abbrev pub Slots : Type 0
 Slots = ℕ → List Float
@@ -75,20 +75,7 @@ wrote2 n a b f g w w' l m h k e =
       holds = ap (slots n) e ∙ (λ i j. slot-put n b ys v m k' j i) ∙ ap (λ (S : Slots). upd b ys S) (λ i j. slot-put n a xs w l h j i);
     }
 
-pub wrote3 : (n a b c : ℕ) (f g r : Slots → List Float) (w w' : List Float) → length (f (slots n w)) ≡ n → length (g (slots n w)) ≡ n → length (r (slots n w)) ≡ n
-    → a * n + n ≤ length w → b * n + n ≤ length w → c * n + n ≤ length w
-    → w' ≡ put (c * n) (r (slots n w)) (put (b * n) (g (slots n w)) (put (a * n) (f (slots n w)) w)) → Became n (λ S. upd c (r S) (upd b (g S) (upd a (f S) S))) w w'
-wrote3 n a b c f g r w w' l m o h k p e =
-    let zs = r (slots n w) in
-    let v = put (b * n) (g (slots n w)) (put (a * n) (f (slots n w)) w) in
-    let two = wrote2 n a b f g w v l m h k refl in
-    let p' : c * n + n ≤ length v = rw (two .long) p in
-    record {
-      long = ap length e ∙ length-put-is (c * n) n zs v o p' ∙ two .long;
-      holds = ap (slots n) e ∙ (λ i j. slot-put n c zs v o p' j i) ∙ ap (λ (S : Slots). upd c zs S) (two .holds);
-    }
-
--- what a loop that fills slot a, or slots a and b, or three, reads of another slot k
+-- what a loop that fills slot a, or slots a and b, reads of another slot k
 module _ (n : ℕ) {i : ℕ} {E xs : List Float} where
   pub reads : {g : ℕ → Float} (a k j : ℕ) → Filled (a * n) i g E xs → i ≤ n → eqb k a ≡ false → j < n → getD xs (k * n + j) nan ≡ getD (slots n E k) j nan
   unfolding slots
@@ -100,10 +87,6 @@ module _ (n : ℕ) {i : ℕ} {E xs : List Float} where
   pub reads2 : {f g : ℕ → Float} (a b k j : ℕ) → Filled2 (a * n) (b * n) i f g E xs → i ≤ n → eqb k a ≡ false → eqb k b ≡ false → j < n → getD xs (k * n + j) nan ≡ getD (slots n E k) j nan
   unfolding slots
   reads2 a b k j F h p q l = filled2-at n (k * n) n j nan F h (slots-apart n a k p) (slots-apart n b k q) l
-
-  pub reads3 : {f g r : ℕ → Float} (a b c k j : ℕ) → Filled3 (a * n) (b * n) (c * n) i f g r E xs → i ≤ n → eqb k a ≡ false → eqb k b ≡ false → eqb k c ≡ false → j < n → getD xs (k * n + j) nan ≡ getD (slots n E k) j nan
-  unfolding slots
-  reads3 a b c k j F h p q s l = filled3-at n (k * n) n j nan F h (slots-apart n a k p) (slots-apart n b k q) (slots-apart n c k s) l
 
   -- of its own slot a, what is written next
   pub mine2 : {f g : ℕ → Float} (a b : ℕ) → Filled2 (a * n) (b * n) i f g E xs → i < n → eqb a b ≡ false → getD xs (a * n + i) nan ≡ getD (slots n E a) i nan
@@ -138,8 +121,3 @@ module _ (n : ℕ) {i : ℕ} {E xs : List Float} where
   pub lends : {g : ℕ → Float} (a k e : ℕ) → Filled (a * n) i g E xs → i ≤ n → eqb k a ≡ false → e ≡ k * n + n → take (e - k * n) (drop (k * n) xs) ≡ slots n E k
   unfolding slots
   lends a k e F h p q = lent (k * n) e n xs q ∙ filled-part n (k * n) n nan F h (slots-apart n a k p)
-
-  pub lends3 : {f g r : ℕ → Float} (a b c k e : ℕ) → Filled3 (a * n) (b * n) (c * n) i f g r E xs → i ≤ n → eqb k a ≡ false → eqb k b ≡ false → eqb k c ≡ false → e ≡ k * n + n
-      → take (e - k * n) (drop (k * n) xs) ≡ slots n E k
-  unfolding slots
-  lends3 a b c k e F h p q s l = lent (k * n) e n xs l ∙ filled3-part n (k * n) n nan F h (slots-apart n a k p) (slots-apart n b k q) (slots-apart n c k s)

@@ -1,11 +1,10 @@
 -- The slots after the passes of a step are the state that `rk4Of` defines.
 use mathlib.Core.Path.{_≡_, refl, sym, ap, _∙_}
 use mathlib.Core.List.{List, _++_}
-use Prim.Native.Nat.{ℕ, suc, _+_, _-_, _*_, _≤_, _<_}
+use Prim.Native.Nat.{ℕ, suc, _+_, _*_, _≤_}
 use native.Mathlib.Nat.{suc-mul}
 use native.Mathlib.Omega.{arith}
-use mathlib.Core.Logic.{_⊎_, inl, inr}
-use lib.ListN.{length, take, drop, List·getD-eq-default}
+use lib.ListN.{length, take, drop}
 use lib.Seq.{drop-drop, take-add}
 use lib.Ieee.{Float, nan, binary64, add, sub, mul, div, ofInt}
 use Rattle.vectors.specs.Constants.{whole}
@@ -13,7 +12,7 @@ use Rattle.vectors.specs.Grid.{pointsOf, spacingOf, pointOf}
 use Rattle.vectors.specs.GridLaws.{point-out}
 use Rattle.vectors.specs.Dissipation.{radialCorrectionOf}
 use Rattle.vectors.specs.Memory.{tab, part}
-use Rattle.vectors.specs.MemoryLaws.{length-tab, getD-tab, side}
+use Rattle.vectors.specs.MemoryLaws.{length-tab, getD-tab}
 use Rattle.physics.specs.Constraints.{half, radialGradientOf, constraintsOf}
 use Rattle.physics.specs.Equations.{Equations, equationsOf, boundedOf}
 use Rattle.physics.specs.State.{State, layOut}
@@ -23,7 +22,7 @@ use Rattle.physics.specs.PassLaws.{renamed, ready-after}
 use Rattle.physics.specs.Slots.{Slots, slots, upd, Became}
 use Rattle.physics.specs.StepPasses.{ReadyStep, advancedBySum, firsts, stages, doubledStages, lasts, steps}
 use Rattle.physics.specs.Vector.{at, advancedOf}
-use Rattle.physics.specs.VectorLaws.{tab-same}
+use Rattle.physics.specs.VectorLaws.{tab-same, tab-at}
 
 -- ---- what the next pass may rely on
 module _ {level n : ℕ} {f : Slots → Slots} {w w' : List Float} where
@@ -170,31 +169,26 @@ module _ (n : ℕ) (w : List Float) where
 
 -- ---- the grid
 
--- a list of a function's values, read at any place, where the function is NaN past them
-tab-at : (n : ℕ) (g : ℕ → Float) → ((i : ℕ) → n ≤ i → g i ≡ nan) → at (tab n g) ≡ g
-tab-at n g past k i = go i k
-  where
-    go : (i : ℕ) → at (tab n g) i ≡ g i
-    go i = elim (side i n) [
-      | inl l ↦ getD-tab n g i nan l
-      | inr l ↦ List·getD-eq-default (tab n g) nan (rw (length-tab n g) l) ∙ sym (past i l)
-    ]
-
 correction-nan : radialCorrectionOf nan ≡ nan
 unfolding radialCorrectionOf sub mul ofInt
 correction-nan = refl
 
+past : (level n : ℕ) → n ≡ pointsOf level → (i : ℕ) → n ≤ i → pointOf level i ≡ nan
+past level n p i h = point-out level i (rw p at h)
+
+pub grid-points : (level n : ℕ) → n ≡ pointsOf level → at (tab n (pointOf level)) ≡ pointOf level
+grid-points level n p = tab-at n (pointOf level) (past level n p)
+
 pub grid-ready : (level n : ℕ) (w w' : List Float) → n ≡ pointsOf level → Room n (length w) → Became n (grids level n) w w' → Ready level n w'
 grid-ready level n w w' p R B =
     let l = B .long in
-    let past : (i : ℕ) → n ≤ i → pointOf level i ≡ nan = λ i h. point-out level i (rw p at h) in
     record {
       many = R .many;
       odd = R .odd;
       fits = rw l (R .fits);
       grid = p;
-      points = ap (λ (S : Slots). at (S 19)) (B .holds) ∙ tab-at n (pointOf level) past;
-      correction = ap (λ (S : Slots). at (S 20)) (B .holds) ∙ tab-at n (λ i. radialCorrectionOf (pointOf level i)) (λ i h. rw (past i h) correction-nan);
+      points = ap (λ (S : Slots). at (S 19)) (B .holds) ∙ grid-points level n p;
+      correction = ap (λ (S : Slots). at (S 20)) (B .holds) ∙ tab-at n (λ i. radialCorrectionOf (pointOf level i)) (λ i h. rw (past level n p i h) correction-nan);
     }
 
 pub length-advancedBySum : (n : ℕ) (c : Float) (xs sums us : List Float) → length (advancedBySum n c xs sums us) ≡ n

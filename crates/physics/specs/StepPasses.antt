@@ -9,7 +9,7 @@ use Rattle.vectors.specs.Constants.{whole}
 use Rattle.vectors.specs.Memory.{tab}
 use Rattle.vectors.specs.MemoryLaws.{apart}
 use Rattle.physics.specs.Constraints.{half, radialGradientOf}
-use Rattle.physics.specs.Passes.{Ready, constraints, fullConstraints, derivatives, bounds, grids}
+use Rattle.physics.specs.Passes.{Ready, constraints, fullConstraints, derivatives, bounds}
 use Rattle.physics.specs.Slots.{Slots, upd}
 use Rattle.physics.specs.Vector.{at, advancedOf}
 

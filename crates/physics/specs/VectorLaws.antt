@@ -1,13 +1,14 @@
 -- Laws of vectors that are written entry by entry.
 use mathlib.Core.Path.{_≡_, refl, sym, ap, _∙_}
 use mathlib.Core.List.{List, [], _∷_, map}
-use Prim.Native.Nat.{ℕ, _+_, _≤_, _<_}
+use Prim.Native.Nat.{ℕ, _≤_, _<_}
 use native.Mathlib.Omega.{arith}
-use lib.ListN.{length, getD, length-map, List·getD-map}
+use mathlib.Core.Logic.{inl, inr}
+use lib.ListN.{length, length-map, List·getD-map, List·getD-eq-default}
 use lib.Seq.{ext-getD}
-use lib.Ieee.{Float, nan, binary64, add, mul}
-use Rattle.vectors.specs.Memory.{tab, part}
-use Rattle.vectors.specs.MemoryLaws.{length-tab, getD-tab, length-part, getD-part}
+use lib.Ieee.{Float, nan}
+use Rattle.vectors.specs.Memory.{tab}
+use Rattle.vectors.specs.MemoryLaws.{length-tab, getD-tab, side}
 use Rattle.physics.specs.Vector.{at, advancedOf}
 
 pub tab-same : (n : ℕ) (f g : ℕ → Float) → ((j : ℕ) → j < n → f j ≡ g j) → tab n f ≡ tab n g
@@ -25,6 +26,16 @@ tab-map n f xs e =
     let l = length-tab n (λ j. f (at xs j)) in
     ext-getD (f nan) _ (map f xs) (l ∙ sym e ∙ sym (length-map xs f))
     (λ j h. getD-tab n (λ j. f (at xs j)) j (f nan) (omega arith) ∙ sym (List·getD-map f xs j nan))
+
+-- a list of a function's values, read at any place, where the function is NaN past them
+pub tab-at : (n : ℕ) (g : ℕ → Float) → ((i : ℕ) → n ≤ i → g i ≡ nan) → at (tab n g) ≡ g
+tab-at n g past k i = go i k
+  where
+    go : (i : ℕ) → at (tab n g) i ≡ g i
+    go i = elim (side i n) [
+      | inl l ↦ getD-tab n g i nan l
+      | inr l ↦ List·getD-eq-default (tab n g) nan (rw (length-tab n g) l) ∙ sym (past i l)
+    ]
 
 pub map-map : (f g : Float → Float) (xs : List Float) → map (λ x. f (g x)) xs ≡ map f (map g xs)
 map-map f g [] = refl

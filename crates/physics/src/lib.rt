@@ -5,3 +5,4 @@ mod equations;
 pub mod integration;
 mod slots;
 pub mod state;
+pub mod state_builder;

@@ -1,7 +1,7 @@
 -- `compute_all_constraints` meets its contract: two passes, on the level's grid.
-use mathlib.Core.Path.{_≡_}
 use Rattle.physics.specs.Slots.{slots, both}
-use Rattle.physics.specs.PassLaws.{renamed, energies-are}
+use Rattle.physics.specs.ConstraintLaws.{energies-are}
+use Rattle.physics.specs.PassLaws.{renamed}
 use borrow.Author.Needs.{needs}
 use Rattle.physics.proofs.constraint_computer.compute_all_constraints.Statement.{statement}
 use Rattle.physics.proofs.constraint_computer.compute_all_constraints.Tie as tie

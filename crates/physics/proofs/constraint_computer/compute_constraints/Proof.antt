@@ -1,7 +1,7 @@
 -- `compute_constraints` meets its contract: its passes are the definitions on the level's grid.
-use mathlib.Core.Path.{_≡_}
 use Rattle.physics.specs.Slots.{slots, both}
-use Rattle.physics.specs.PassLaws.{renamed, constraints-are}
+use Rattle.physics.specs.ConstraintLaws.{constraints-are}
+use Rattle.physics.specs.PassLaws.{renamed}
 use borrow.Author.Needs.{needs}
 use Rattle.physics.proofs.constraint_computer.compute_constraints.Statement.{statement}
 use Rattle.physics.proofs.constraint_computer.compute_constraints.Tie as tie

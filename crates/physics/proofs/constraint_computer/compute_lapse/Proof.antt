@@ -1,14 +1,14 @@
 -- `compute_lapse` meets its contract: four passes.
-use mathlib.Core.Path.{_≡_, refl, ap, _∙_}
+use mathlib.Core.Path.{refl, ap, _∙_}
 use mathlib.Core.List.{map}
-use Prim.Native.Nat.{_≤_, _+_, _*_}
+use Prim.Native.Nat.{_*_}
 use native.Mathlib.Omega.{arith}
-use lib.ListN.{length, length-map}
+use lib.ListN.{length-map}
 use Rattle.vectors.specs.Exp.{expOf}
 use Rattle.physics.specs.Integral.{integralOf}
 use Rattle.physics.specs.IntegralLaws.{length-integralOf}
-use Rattle.physics.specs.Slots.{slots, slots-apart, lent-slot, length-slot, wrote, wrote-back, both, known}
-use Rattle.physics.specs.PassLaws.{lapse-passes}
+use Rattle.physics.specs.Slots.{slots-apart, lent-slot, length-slot, wrote, wrote-back, both, known}
+use Rattle.physics.specs.ConstraintLaws.{lapse-passes}
 use borrow.Author.Needs.{needs}
 use Rattle.physics.proofs.constraint_computer.compute_lapse.Statement.{statement}
 use Rattle.physics.proofs.constraint_computer.compute_lapse.Tie as tie

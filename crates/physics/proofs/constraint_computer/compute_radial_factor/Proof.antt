@@ -1,11 +1,9 @@
 -- `compute_radial_factor` meets its contract: two passes.
-use mathlib.Core.Path.{_≡_, refl, _∙_}
-use Prim.Native.Nat.{_≤_, _+_, _*_}
+use mathlib.Core.Path.{refl, _∙_}
 use native.Mathlib.Omega.{arith}
-use lib.ListN.{length}
 use Rattle.physics.specs.Integral.{integralOf}
 use Rattle.physics.specs.IntegralLaws.{length-integralOf}
-use Rattle.physics.specs.Slots.{slots, slots-apart, length-slot, wrote, both}
+use Rattle.physics.specs.Slots.{slots-apart, length-slot, wrote, both}
 use borrow.Author.Needs.{needs}
 use Rattle.physics.proofs.constraint_computer.compute_radial_factor.Statement.{statement}
 use Rattle.physics.proofs.constraint_computer.compute_radial_factor.Tie as tie

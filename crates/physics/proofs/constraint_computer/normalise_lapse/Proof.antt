@@ -1,6 +1,6 @@
 -- `normalise_lapse` meets its contract.
 use mathlib.Core.Path.{_≡_, refl, ap, _∙_}
-use Prim.Native.Nat.{_≤_, _<_, _-_, _+_, _*_}
+use Prim.Native.Nat.{_≤_, _-_}
 use native.Mathlib.Omega.{arith}
 use lib.ListN.{length, length-set}
 use lib.Ieee.{nan, binary64, mul}
@@ -8,7 +8,7 @@ use Rattle.vectors.specs.Powers.{reciprocalOf}
 use Rattle.physics.specs.Fills.{Grown2, grown2-none, grown2-step, filled2-none, filled2-put}
 use Rattle.physics.specs.Slots.{slots, slots-apart, slot-is, mine2}
 use Rattle.physics.specs.Vector.{at}
-use Rattle.physics.specs.PassLaws.{normals-wrote}
+use Rattle.physics.specs.ConstraintLaws.{normals-wrote}
 use borrow.Author.Needs.{needs}
 use Rattle.physics.proofs.constraint_computer.normalise_lapse.Statement.{statement}
 use Rattle.physics.proofs.constraint_computer.normalise_lapse.Tie as tie

@@ -1,6 +1,6 @@
 -- `radial_factor_and_char_speed` meets its contract.
 use mathlib.Core.Path.{_≡_, refl, sym, ap, _∙_}
-use Prim.Native.Nat.{_≤_, _<_, _-_, _+_, _*_}
+use Prim.Native.Nat.{_≤_, _-_}
 use native.Mathlib.Nat.{add-zero}
 use native.Mathlib.Omega.{arith}
 use lib.ListN.{length, length-set}
@@ -10,7 +10,7 @@ use Rattle.physics.specs.Fills.{Grown2, grown2-none, grown2-step, filled
 use Rattle.physics.specs.Slots.{slots, slots-apart, slot-first, reads2}
 use Rattle.physics.specs.Vector.{at}
 use Rattle.physics.specs.Passes.{radialVal, speedVal}
-use Rattle.physics.specs.PassLaws.{radials-wrote}
+use Rattle.physics.specs.ConstraintLaws.{radials-wrote}
 use borrow.Author.Needs.{needs}
 use Rattle.physics.proofs.constraint_computer.radial_factor_and_char_speed.Statement.{statement}
 use Rattle.physics.proofs.constraint_computer.radial_factor_and_char_speed.Tie as tie

@@ -1,11 +1,9 @@
 -- `apply_bcs` meets its contract: two passes.
-use mathlib.Core.Path.{_≡_, refl, _∙_}
-use Prim.Native.Nat.{_≤_, _+_, _*_}
+use mathlib.Core.Path.{_∙_}
 use native.Mathlib.Omega.{arith}
-use lib.ListN.{length}
 use Rattle.physics.specs.Equations.{boundedOf}
 use Rattle.physics.specs.Slots.{slots, length-slot, wrote, both}
-use Rattle.physics.specs.PassLaws.{length-boundedOf}
+use Rattle.physics.specs.BoundaryLaws.{length-boundedOf}
 use borrow.Author.Needs.{needs}
 use Rattle.physics.proofs.equations.apply_bcs.Statement.{statement}
 use Rattle.physics.proofs.equations.apply_bcs.Tie as tie

@@ -1,5 +1,4 @@
 -- `calculate_dt_conj_momentum` meets its contract: the origin, then three runs.
-use mathlib.Core.Path.{_≡_}
 use Prim.Native.Nat.{_*_}
 use native.Mathlib.Omega.{arith}
 use Rattle.vectors.specs.Memory.{tab}
@@ -7,7 +6,7 @@ use Rattle.vectors.specs.MemoryLaws.{length-tab}
 use Rattle.physics.specs.Fills.{grown-both}
 use Rattle.physics.specs.Slots.{slots, wrote}
 use Rattle.physics.specs.Passes.{momentumRateIn}
-use Rattle.physics.specs.PassLaws.{run-left, run-inner, run-right, runs-put}
+use Rattle.physics.specs.EquationLaws.{run-left, run-inner, run-right, runs-put}
 use borrow.Author.Needs.{needs}
 use Rattle.physics.proofs.equations.calculate_dt_conj_momentum.Statement.{statement}
 use Rattle.physics.proofs.equations.calculate_dt_conj_momentum.Tie as tie

@@ -1,12 +1,11 @@
 -- `calculate_dt_field` meets its contract: three runs.
-use mathlib.Core.Path.{_≡_}
 use Prim.Native.Nat.{_*_}
 use native.Mathlib.Omega.{arith}
 use Rattle.vectors.specs.Memory.{tab}
 use Rattle.vectors.specs.MemoryLaws.{length-tab}
 use Rattle.physics.specs.Slots.{slots, wrote}
 use Rattle.physics.specs.Passes.{fieldRateIn}
-use Rattle.physics.specs.PassLaws.{run-left, run-inner, run-right, runs-put}
+use Rattle.physics.specs.EquationLaws.{run-left, run-inner, run-right, runs-put}
 use borrow.Author.Needs.{needs}
 use Rattle.physics.proofs.equations.calculate_dt_field.Statement.{statement}
 use Rattle.physics.proofs.equations.calculate_dt_field.Tie as tie

@@ -1,7 +1,6 @@
 -- `dissipation_scale` meets its contract: the bits of its constants are those of the definition's.
 use mathlib.Core.Path.{refl}
 use lib.Ieee.{ofBits, ofInt, round}
-use Rattle.vectors.specs.Constants.{dissipationFactor}
 use Rattle.vectors.specs.Dissipation.{dissipationScale}
 use Rattle.physics.proofs.equations.dissipation_scale.Statement.{statement}
 use Rattle.physics.proofs.equations.dissipation_scale.Tie as tie

@@ -1,14 +1,14 @@
 -- `dt_conj_momentum_origin` meets its contract.
-use mathlib.Core.Path.{_≡_, refl, sym, _∙_}
-use Prim.Native.Nat.{_≤_, _<_, _-_, _+_, _*_}
+use mathlib.Core.Path.{refl, sym, _∙_}
+use Prim.Native.Nat.{_<_, _*_}
 use native.Mathlib.Nat.{add-zero}
 use native.Mathlib.Omega.{arith}
-use lib.ListN.{length, length-set}
+use lib.ListN.{length-set}
 use Rattle.vectors.specs.MemoryLaws.{step}
 use Rattle.vectors.specs.Stencil.{diff3Row}
 use Rattle.vectors.specs.StencilLaws.{window-left}
-use Rattle.physics.specs.Slots.{slots, reads-first}
-use Rattle.physics.specs.PassLaws.{third-in}
+use Rattle.physics.specs.Slots.{reads-first}
+use Rattle.physics.specs.EquationLaws.{third-in}
 use borrow.Author.Needs.{needs}
 use Rattle.physics.proofs.equations.dt_conj_momentum_origin.Statement.{statement}
 use Rattle.physics.proofs.equations.dt_conj_momentum_origin.Tie as tie

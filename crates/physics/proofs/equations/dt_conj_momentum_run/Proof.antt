@@ -1,6 +1,6 @@
 -- `dt_conj_momentum_run` meets its contract.
 use mathlib.Core.Path.{_≡_, refl, _∙_}
-use Prim.Native.Nat.{_≤_, _<_, _-_, _+_, _*_}
+use Prim.Native.Nat.{_≤_, _<_, _-_, _*_}
 use native.Mathlib.Omega.{arith}
 use lib.ListN.{length, length-set}
 use borrow.Author.Tests.{ne-eqb}
@@ -8,7 +8,7 @@ use Rattle.vectors.specs.MemoryLaws.{Grown, grown-none, grown-step}
 use Rattle.vectors.specs.Stencil.{diff3Row}
 use Rattle.physics.specs.Slots.{slots, reads}
 use Rattle.physics.specs.Passes.{momentumRateIn}
-use Rattle.physics.specs.PassLaws.{third-in}
+use Rattle.physics.specs.EquationLaws.{third-in}
 use borrow.Author.Needs.{needs}
 use Rattle.physics.proofs.equations.dt_conj_momentum_run.Statement.{statement}
 use Rattle.physics.proofs.equations.dt_conj_momentum_run.Tie as tie

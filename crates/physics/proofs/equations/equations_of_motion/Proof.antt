@@ -1,7 +1,7 @@
 -- `equations_of_motion` meets its contract: its passes are the definitions on the level's grid.
-use mathlib.Core.Path.{_≡_}
 use Rattle.physics.specs.Slots.{slots, both}
-use Rattle.physics.specs.PassLaws.{renamed, derivatives-are}
+use Rattle.physics.specs.EquationLaws.{derivatives-are}
+use Rattle.physics.specs.PassLaws.{renamed}
 use borrow.Author.Needs.{needs}
 use Rattle.physics.proofs.equations.equations_of_motion.Statement.{statement}
 use Rattle.physics.proofs.equations.equations_of_motion.Tie as tie

@@ -1,12 +1,12 @@
 -- `half_dissipation` meets its contract: three runs.
-use mathlib.Core.Path.{_≡_, refl, _∙_}
+use mathlib.Core.Path.{_∙_}
 use native.Mathlib.Omega.{arith}
 use Rattle.vectors.specs.Memory.{part}
 use Rattle.vectors.specs.MemoryLaws.{length-part}
 use Rattle.physics.specs.Slots.{slots}
 use Rattle.physics.specs.Vector.{at}
 use Rattle.physics.specs.Passes.{halfVal}
-use Rattle.physics.specs.PassLaws.{run-left, run-inner, run-right, runs-put, half-tab}
+use Rattle.physics.specs.EquationLaws.{run-left, run-inner, run-right, runs-put, half-tab}
 use borrow.Author.Needs.{needs}
 use Rattle.physics.proofs.equations.half_dissipation.Statement.{statement}
 use Rattle.physics.proofs.equations.half_dissipation.Tie as tie

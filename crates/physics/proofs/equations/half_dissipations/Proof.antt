@@ -1,12 +1,10 @@
 -- `half_dissipations` meets its contract: two passes.
-use mathlib.Core.Path.{_≡_, refl, _∙_}
-use Prim.Native.Nat.{_≤_, _+_, _*_}
+use mathlib.Core.Path.{refl, _∙_}
 use native.Mathlib.Omega.{arith}
-use lib.ListN.{length}
 use Rattle.physics.specs.Slots.{slots, slots-apart, length-slot, wrote, both}
 use Rattle.physics.specs.Vector.{at}
 use Rattle.physics.specs.Passes.{halfOn}
-use Rattle.physics.specs.PassLaws.{length-halfOn}
+use Rattle.physics.specs.EquationLaws.{length-halfOn}
 use borrow.Author.Needs.{needs}
 use Rattle.physics.proofs.equations.half_dissipations.Statement.{statement}
 use Rattle.physics.proofs.equations.half_dissipations.Tie as tie

@@ -1,10 +1,10 @@
 -- `set_bcs` meets its contract.
-use mathlib.Core.Path.{_≡_, refl, ap, _∙_}
+use mathlib.Core.Path.{refl, ap, _∙_}
 use native.Mathlib.Omega.{arith}
-use lib.ListN.{length, length-set}
+use lib.ListN.{length-set}
 use Rattle.vectors.specs.MemoryLaws.{lent}
 use Rattle.vectors.specs.Stencil.{diffLeft0, neumannOf}
-use Rattle.physics.specs.PassLaws.{neumann-is, bounded-put}
+use Rattle.physics.specs.BoundaryLaws.{neumann-is, bounded-put}
 use borrow.Author.Needs.{needs}
 use Rattle.physics.proofs.equations.set_bcs.Statement.{statement}
 use Rattle.physics.proofs.equations.set_bcs.Tie as tie

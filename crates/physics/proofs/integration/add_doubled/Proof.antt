@@ -1,8 +1,6 @@
 -- `add_doubled` meets its contract: three passes.
-use mathlib.Core.Path.{_≡_, refl, _∙_}
-use Prim.Native.Nat.{_≤_, _+_, _*_}
+use mathlib.Core.Path.{refl}
 use native.Mathlib.Omega.{arith}
-use lib.ListN.{length}
 use lib.Ieee.{ofBits, ofInt}
 use Rattle.vectors.specs.Constants.{whole}
 use Rattle.physics.specs.Vector.{advancedOf}

@@ -1,6 +1,4 @@
 -- `advance_state` meets its contract: two passes.
-use mathlib.Core.Path.{_≡_}
-use native.Mathlib.Omega.{arith}
 use Rattle.physics.specs.Slots.{both}
 use Rattle.physics.specs.StepLaws.{grid-ready}
 use borrow.Author.Needs.{needs}

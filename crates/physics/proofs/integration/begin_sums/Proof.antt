@@ -1,8 +1,6 @@
 -- `begin_sums` meets its contract: three passes.
-use mathlib.Core.Path.{_≡_, refl, _∙_}
-use Prim.Native.Nat.{_≤_, _+_, _*_}
+use mathlib.Core.Path.{refl}
 use native.Mathlib.Omega.{arith}
-use lib.ListN.{length}
 use Rattle.physics.specs.Slots.{slots, slots-apart, length-slot, wrote, both}
 use borrow.Author.Needs.{needs}
 use Rattle.physics.proofs.integration.begin_sums.Statement.{statement}

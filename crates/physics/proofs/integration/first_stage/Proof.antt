@@ -1,5 +1,5 @@
 -- `first_stage` meets its contract: five passes.
-use mathlib.Core.Path.{_≡_, refl}
+use mathlib.Core.Path.{refl}
 use Rattle.physics.specs.Slots.{both}
 use Rattle.physics.specs.StepLaws.{gradient-pass, equations-ready}
 use borrow.Author.Needs.{needs}

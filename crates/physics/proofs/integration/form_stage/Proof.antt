@@ -1,10 +1,9 @@
 -- `form_stage` meets its contract: four passes.
-use mathlib.Core.Path.{_≡_, refl, _∙_}
-use Prim.Native.Nat.{_≤_, _+_, _*_}
+use mathlib.Core.Path.{refl}
+use Prim.Native.Nat.{_*_}
 use native.Mathlib.Omega.{arith}
-use lib.ListN.{length}
 use Rattle.physics.specs.PassLaws.{ready-after}
-use Rattle.physics.specs.Slots.{slots, slots-apart, lent-slot, length-slot, wrote, both}
+use Rattle.physics.specs.Slots.{slots, slots-apart, lent-slot, wrote, both}
 use Rattle.physics.specs.Vector.{advancedOf}
 use Rattle.physics.specs.VectorLaws.{length-advancedOf}
 use borrow.Author.Needs.{needs}

@@ -1,8 +1,6 @@
 -- `load_variables` meets its contract: two passes.
-use mathlib.Core.Path.{_≡_, refl, _∙_}
-use Prim.Native.Nat.{_≤_, _+_, _*_}
+use Prim.Native.Nat.{_*_}
 use native.Mathlib.Omega.{arith}
-use lib.ListN.{length}
 use Rattle.physics.specs.Slots.{slots, lent-slot, length-slot, wrote, both}
 use borrow.Author.Needs.{needs}
 use Rattle.physics.proofs.integration.load_variables.Statement.{statement}

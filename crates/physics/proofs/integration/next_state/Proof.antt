@@ -1,5 +1,5 @@
 -- `next_state` meets its contract: three passes.
-use mathlib.Core.Path.{_≡_, refl}
+use mathlib.Core.Path.{refl}
 use Rattle.physics.specs.PassLaws.{ready-after}
 use Rattle.physics.specs.Slots.{both}
 use borrow.Author.Needs.{needs}

@@ -1,8 +1,7 @@
 -- `next_variables` meets its contract: three passes.
-use mathlib.Core.Path.{_≡_, refl, _∙_}
-use Prim.Native.Nat.{_≤_, _+_, _*_}
+use mathlib.Core.Path.{refl}
+use Prim.Native.Nat.{_*_}
 use native.Mathlib.Omega.{arith}
-use lib.ListN.{length}
 use Rattle.physics.specs.Slots.{slots, slots-apart, lent-slot, wrote, both}
 use Rattle.physics.specs.StepPasses.{advancedBySum}
 use Rattle.physics.specs.StepLaws.{length-advancedBySum}

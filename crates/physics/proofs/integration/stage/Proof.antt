@@ -1,5 +1,5 @@
 -- `stage` meets its contract: two passes.
-use mathlib.Core.Path.{_≡_, refl}
+use mathlib.Core.Path.{refl}
 use Rattle.physics.specs.Slots.{both}
 use Rattle.physics.specs.StepLaws.{equations-ready}
 use borrow.Author.Needs.{needs}

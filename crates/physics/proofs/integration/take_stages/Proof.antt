@@ -1,5 +1,5 @@
 -- `take_stages` meets its contract: the passes of a step.
-use mathlib.Core.Path.{_≡_, refl}
+use mathlib.Core.Path.{refl}
 use lib.Ieee.{ofBits, ofInt, round}
 use Rattle.physics.specs.Slots.{both}
 use Rattle.physics.specs.StepLaws.{step-ready}

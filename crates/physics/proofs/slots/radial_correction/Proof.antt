@@ -1,5 +1,5 @@
 -- `radial_correction` meets its contract: the bits of its constant are those of 1.
-use mathlib.Core.Path.{_≡_, refl, ap, _∙_}
+use mathlib.Core.Path.{_∙_}
 use lib.Ieee.{ofBits, ofInt}
 use Rattle.vectors.specs.Dissipation.{radialCorrectionOf}
 use borrow.Author.Needs.{needs}

@@ -17,6 +17,7 @@ pub mod PassLaws
 pub mod Passes
 pub mod Quadrature
 pub mod Rk4
+pub mod RulesUsed
 pub mod Slots
 pub mod State
 pub mod StateLaws

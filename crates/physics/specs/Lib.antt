@@ -18,6 +18,7 @@ pub mod Passes
 pub mod Quadrature
 pub mod Rk4
 pub mod RulesUsed
+pub mod Sizes
 pub mod Slots
 pub mod State
 pub mod StateLaws

@@ -1,0 +1,9 @@
+pub mod BlackHole
+pub mod Nan
+pub mod NanLaws
+pub mod Quadrature
+pub mod State
+pub mod StateLaws
+pub mod Store
+pub mod Tableau
+pub mod TotalEnergy

@@ -1,0 +1,28 @@
+-- Laws of the NaN tests: of a state's layout, of two lists, and of a number compared with itself.
+use mathlib.Core.Path.{_≡_, refl, ap}
+use mathlib.Core.Bool.{Bool, true, false, not, _&&_, _||_, or-assoc}
+use mathlib.Core.List.{List, [], _∷_, _++_}
+use Prim.Native.Nat.{ℕ, _*_}
+use borrow.Author.Tests.{eq-eqb}
+use lib.Dec.{eqb}
+use lib.Ieee.{Float, nan, inf, fin, up, down, ne, isNan}
+use Rattle.physics.specs.State.{State, layOut}
+use Rattle.physics.specs.Nan.{holdsNan, stateHasNan, anyNan}
+
+pub holdsNan-append : (xs ys : List Float) → holdsNan (xs ++ ys) ≡ (holdsNan xs || holdsNan ys)
+unfolding holdsNan
+holdsNan-append [] ys = refl
+holdsNan-append (x ∷ xs) ys = rw (holdsNan-append xs ys, or-assoc)
+
+-- of a state as a memory holds it
+pub anyNan-layOut : (s : State) → anyNan (s .time) (layOut s) ≡ stateHasNan s
+unfolding anyNan stateHasNan layOut
+anyNan-layOut s = simp holdsNan-append
+
+pub differs-isNan : (x : Float) → ne x x ≡ isNan x
+unfolding ne isNan
+differs-isNan nan = refl
+differs-isNan (inf true) = refl
+differs-isNan (inf false) = refl
+differs-isNan (fin true m e) = let same : eqb (m * up e * down e) (m * up e * down e) ≡ true = eq-eqb (m * up e * down e) (m * up e * down e) refl in rw same
+differs-isNan (fin false m e) = let same : eqb (m * up e * down e) (m * up e * down e) ≡ true = eq-eqb (m * up e * down e) (m * up e * down e) refl in rw same

@@ -1,0 +1,2 @@
+// Runs with budgeted advance.
+pub mod settings;

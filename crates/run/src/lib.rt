@@ -1,2 +1,3 @@
 // Runs with budgeted advance.
 pub mod settings;
+pub mod simulation_inputs;

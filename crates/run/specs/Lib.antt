@@ -1,2 +1,4 @@
+pub mod Clock
+pub mod ClockLaws
 pub mod Inputs
 pub mod InputsLaws

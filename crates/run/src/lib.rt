@@ -1,3 +1,4 @@
 // Runs with budgeted advance.
+pub mod adaptive_time_step;
 pub mod settings;
 pub mod simulation_inputs;

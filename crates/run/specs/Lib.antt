@@ -1,4 +1,7 @@
 pub mod Clock
 pub mod ClockLaws
+pub mod Frames
+pub mod FramesLaws
 pub mod Inputs
 pub mod InputsLaws
+pub mod WriteLaws

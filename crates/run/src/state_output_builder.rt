@@ -1,0 +1,69 @@
+// From use_cases/state_output_builder.rs: a frame, which is the fields of `StateOutput` one after another.
+ghost use mathlib.Core.Path.{_≡_};
+ghost use mathlib.Core.List.{_++_, _∷_};
+ghost use Prim.Native.Nat.{_+_, _*_, _≤_};
+ghost use lib.ListN.{length, drop};
+ghost use Rattle.vectors.specs.Grid.{pointsOf};
+ghost use Rattle.vectors.specs.Memory.{part, put};
+ghost use Rattle.physics.specs.State.{stateIn};
+ghost use Rattle.physics.specs.TotalEnergy.{lastOf};
+ghost use Rattle.run.specs.Frames.{samplesOf, frameSizeOf, frameOf};
+ghost use Rattle.run.specs.FramesLaws.{everyOf, Sampling, FrameRoom};
+ghost use Rattle.run.specs.WriteLaws.{Wrote};
+use crate::settings::Settings;
+use physics::state::total_energy;
+use vectors::diff::diff;
+use vectors::grid::length_at_discretization;
+
+// The numbers of a frame.
+pub fn frame_size(s: Settings) -> usize
+    ensures { λ r. ⌜ r ≡ frameSizeOf s ⌝ }
+{
+    2 + 9 * samples(s.dx_level)
+}
+
+// The samples of a vector: 2^dx_level + 1, none above level 16.
+fn samples(dx_level: u32) -> usize
+    ensures { λ r. ⌜ r ≡ samplesOf «dx_level» ⌝ }
+{
+    if 16 < dx_level {
+        return 0;
+    }
+    (1usize << dx_level) + 1
+}
+
+// Writes the samples of a vector: every step-th number, count of them.
+fn reduce_spatial_resolution(
+    vector: &[f64],
+    step: usize,
+    count: usize,
+    frames: &mut [f64],
+    at: usize,
+)
+    requires { ⌜ Sampling (length (now vector)) step count × (at + count ≤ length (now frames)) ⌝ }
+    ensures { λ _. ⌜ Wrote at (everyOf step count (now (vector .entry))) (now (frames .entry)) (now (frames .exit)) ⌝ }
+{
+    let mut j = 0;
+    while j < count {
+        frames[at + j] = vector[j * step];
+        j += 1;
+    }
+}
+
+// The same of vector k of the state, whose vectors have n numbers each.
+fn write_vector(
+    state: &[f64],
+    n: usize,
+    k: usize,
+    step: usize,
+    count: usize,
+    frames: &mut [f64],
+    at: usize,
+)
+    requires { ⌜ Sampling n step count × (k * n + n ≤ length (now state)) × (at + count ≤ length (now frames)) ⌝ }
+    ensures { λ _. ⌜ Wrote at (everyOf step count (part (k * n) n (now (state .entry)))) (now (frames .entry)) (now (frames .exit)) ⌝ }
+{
+    let from = k * n;
+    let end = from + n;
+    reduce_spatial_resolution(&state[from..end], step, count, frames, at);
+}

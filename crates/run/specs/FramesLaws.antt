@@ -1,6 +1,6 @@
 -- Laws of frames: their length, and that every sample is a point of its vector.
 use mathlib.Core.Path.{_≡_, refl, sym, ap, _∙_}
-use mathlib.Core.List.{List}
+use mathlib.Core.List.{List, _∷_, _++_}
 use mathlib.Core.Logic.{inl, inr}
 use Prim.Native.Nat.{ℕ, _+_, _-_, _*_, _^_, _≤_, _<_}
 use native.Mathlib.Nat.{mul-le-mul-right}
@@ -12,9 +12,10 @@ use lib.Pow.{pow-add, pow-mono}
 use lib.Ieee.{Float, nan}
 use Rattle.vectors.specs.Grid.{pointsOf}
 use Rattle.vectors.specs.GridLaws.{points-in}
-use Rattle.vectors.specs.Memory.{tab}
+use Rattle.vectors.specs.Memory.{tab, part}
 use Rattle.vectors.specs.MemoryLaws.{side, length-tab}
 use Rattle.physics.specs.State.{State}
+use Rattle.physics.specs.TotalEnergy.{lastOf}
 use Rattle.run.specs.declared.settings.Settings.{Settings}
 use Rattle.run.specs.Frames.{samplesOf, frameSizeOf, sampleOf, sampledBy, frameOf}
 use Rattle.run.specs.InputsLaws.{Accepted}
@@ -68,6 +69,29 @@ module _ {s : Settings} (a : Accepted s) where
           let p : 2 ^ L ≡ 2 ^ d * 2 ^ (L - d) = ap (λ (k : ℕ). 2 ^ k) (sym w) ∙ pow-add 2 d (L - d) in
           let b : j ≤ 2 ^ d = omega (arith, samples-in d (omega (arith, a .level .most))) in
           omega (arith, points-in (a .level), mul-le-mul-right (2 ^ (L - d)) b)
+
+-- ---- a frame in three groups, of a state whose vectors of n numbers each stand in a memory
+-- the memory has the vectors, and the samples stay inside each
+pub record Vectors (n step count stateLength : ℕ) : Type 0 where
+  pub sampling : Sampling n step count
+  pub state : 8 * n ≤ stateLength
+
+module _ (n step count : ℕ) (state : List Float) where
+  -- samples of vector k
+  abbrev pub vectorSamples : ℕ → List Float
+  vectorSamples k = everyOf step count (part (k * n) n state)
+
+  -- field, radial gradient, momentum
+  abbrev pub fieldsOf : List Float → List Float
+  fieldsOf gradient = vectorSamples 0 ++ (everyOf step count gradient ++ vectorSamples 1)
+
+  -- mass, radial factor, lapse, char speed, energy density
+  abbrev pub constraintsOf : List Float
+  constraintsOf = vectorSamples 4 ++ (vectorSamples 5 ++ (vectorSamples 6 ++ (vectorSamples 7 ++ vectorSamples 3)))
+
+  -- total energy, alternate mass
+  abbrev pub energyOf : List Float
+  energyOf = lastOf (part (4 * n) n state) ∷ vectorSamples 2
 
 -- where a frame can be written: settings without fault, and room in the three memories
 pub record FrameRoom (s : Settings) (stateLength workLength framesLength at : ℕ) : Type 0 where

@@ -55,11 +55,11 @@ module _ {A : Type 0} where
   wrote-one at y xs h = record { is = sym (put-one at y xs h); within = omega arith }
 
   -- one after another
-  pub wrote-both : {at b : ℕ} {ys zs xs₀ xs₁ xs : List A} → Wrote at ys xs₀ xs₁ → Wrote b zs xs₁ xs → b ≡ at + length ys → Wrote at (ys ++ zs) xs₀ xs
-  wrote-both {at} {b} {ys} {zs} {xs₀} {xs₁} {xs} v w e =
-      let l = wrote-length v in
-      let r : at + length ys + length zs ≤ length xs₀ = omega (arith, w .within) in
+  pub wrote-both : {at b n : ℕ} {ys zs xs₀ xs₁ xs : List A} → Wrote at ys xs₀ xs₁ → Wrote b zs xs₁ xs → length ys ≡ n → b ≡ at + n → Wrote at (ys ++ zs) xs₀ xs
+  wrote-both {at} {b} {n} {ys} {zs} {xs₀} {xs₁} {xs} v w l e =
+      let k : b ≡ at + length ys = omega arith in
+      let r : at + length ys + length zs ≤ length xs₀ = omega (arith, w .within, wrote-length v) in
       record {
-        is = w .is ∙ ap (λ (k : ℕ). put k zs xs₁) e ∙ ap (put (at + length ys) zs) (v .is) ∙ put-append at ys zs xs₀ r;
+        is = w .is ∙ ap (λ (j : ℕ). put j zs xs₁) k ∙ ap (put (at + length ys) zs) (v .is) ∙ put-append at ys zs xs₀ r;
         within = omega (arith, length-append ys zs);
       }

@@ -8,7 +8,7 @@ ghost use Rattle.vectors.specs.Memory.{part, put};
 ghost use Rattle.physics.specs.State.{stateIn};
 ghost use Rattle.physics.specs.TotalEnergy.{lastOf};
 ghost use Rattle.run.specs.Frames.{samplesOf, frameSizeOf, frameOf};
-ghost use Rattle.run.specs.FramesLaws.{everyOf, Sampling, FrameRoom};
+ghost use Rattle.run.specs.FramesLaws.{everyOf, Sampling, Vectors, fieldsOf, constraintsOf, energyOf, FrameRoom};
 ghost use Rattle.run.specs.WriteLaws.{Wrote};
 use crate::settings::Settings;
 use physics::state::total_energy;
@@ -66,4 +66,26 @@ fn write_vector(
     let from = k * n;
     let end = from + n;
     reduce_spatial_resolution(&state[from..end], step, count, frames, at);
+}
+
+// The numbers of the vectors in state memory.
+const FIELD: usize = 0;
+const CONJ_MOMENTUM: usize = 1;
+const ALTERNATE_MASS: usize = 2;
+const ENERGY_DENSITY: usize = 3;
+const MASS: usize = 4;
+const RADIAL_FACTOR: usize = 5;
+const LAPSE: usize = 6;
+const CHAR_SPEED: usize = 7;
+
+// Writes the fields: the scalar field, its radial gradient and its conjugate momentum.
+fn write_fields(state: &[f64], radial_gradient: &[f64], n: usize, step: usize, count: usize, frames: &mut [f64], at: usize)
+    requires { ⌜ Vectors n step count (length (now state)) × (length (now «radial_gradient») ≡ n) × (at + 3 * count ≤ length (now frames)) ⌝ }
+    ensures { λ _. ⌜ Wrote at (fieldsOf n step count (now (state .entry)) (now («radial_gradient» .entry))) (now (frames .entry)) (now (frames .exit)) ⌝ }
+{
+    let second = at + count;
+    let third = second + count;
+    write_vector(state, n, FIELD, step, count, frames, at);
+    reduce_spatial_resolution(radial_gradient, step, count, frames, second);
+    write_vector(state, n, CONJ_MOMENTUM, step, count, frames, third);
 }

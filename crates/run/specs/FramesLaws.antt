@@ -1,6 +1,6 @@
 -- Laws of frames: their length, and that every sample is a point of its vector.
 use mathlib.Core.Path.{_≡_, refl, sym, ap, _∙_}
-use mathlib.Core.List.{List, _∷_, _++_}
+use mathlib.Core.List.{List, [], _∷_, _++_, append-assoc}
 use mathlib.Core.Logic.{inl, inr}
 use Prim.Native.Nat.{ℕ, _+_, _-_, _*_, _^_, _≤_, _<_}
 use native.Mathlib.Nat.{mul-le-mul-right}
@@ -10,15 +10,17 @@ use lib.Dec.{leb}
 use lib.ListN.{length, getD, length-append}
 use lib.Pow.{pow-add, pow-mono}
 use lib.Ieee.{Float, nan}
-use Rattle.vectors.specs.Grid.{pointsOf}
+use Rattle.vectors.specs.Grid.{pointsOf, spacingOf}
 use Rattle.vectors.specs.GridLaws.{points-in}
 use Rattle.vectors.specs.Memory.{tab, part}
 use Rattle.vectors.specs.MemoryLaws.{side, length-tab}
-use Rattle.physics.specs.State.{State}
-use Rattle.physics.specs.TotalEnergy.{lastOf}
+use Rattle.vectors.specs.Stencil.{diffOf}
+use Rattle.physics.specs.State.{State, stateIn}
+use Rattle.physics.specs.TotalEnergy.{lastOf, totalEnergyOf}
 use Rattle.run.specs.declared.settings.Settings.{Settings}
 use Rattle.run.specs.Frames.{samplesOf, frameSizeOf, sampleOf, sampledBy, frameOf}
 use Rattle.run.specs.InputsLaws.{Accepted}
+use Rattle.run.specs.WriteLaws.{Wrote, wrote-both}
 
 -- ---- the number of samples
 pub samples-in : (dx : ℕ) → dx ≤ 16 → samplesOf dx ≡ 2 ^ dx + 1
@@ -92,6 +94,28 @@ module _ (n step count : ℕ) (state : List Float) where
   -- total energy, alternate mass
   abbrev pub energyOf : List Float
   energyOf = lastOf (part (4 * n) n state) ∷ vectorSamples 2
+
+  -- the time and the three
+  abbrev pub outputOf : Float → List Float → List Float
+  outputOf time gradient = time ∷ (fieldsOf gradient ++ (constraintsOf ++ energyOf))
+
+  length-fields : (gradient : List Float) → length (fieldsOf gradient) ≡ 3 * count
+  length-fields gradient = simp (length-append, length-tab) (omega arith)
+
+  length-constraints : length constraintsOf ≡ 5 * count
+  length-constraints = simp (length-append, length-tab) (omega arith)
+
+  -- written one after another
+  pub wrote-output : {at b c d : ℕ} {xs₀ xs₁ xs₂ xs₃ xs₄ : List Float} (time : Float) (gradient : List Float)
+      → Wrote at (time ∷ []) xs₀ xs₁ → Wrote b (fieldsOf gradient) xs₁ xs₂ → Wrote c constraintsOf xs₂ xs₃ → Wrote d energyOf xs₃ xs₄
+      → b ≡ at + 1 → c ≡ b + 3 * count → d ≡ c + 5 * count → Wrote at (outputOf time gradient) xs₀ xs₄
+  wrote-output time gradient t f g e p q r = wrote-both t (wrote-both f (wrote-both g e length-constraints r) (length-fields gradient) q) refl p
+
+-- of a state in memory
+pub output-frame : (s : Settings) (time : Float) (state : List Float) → let n = pointsOf (s .level) in
+    outputOf n (2 ^ (s .level - s .«dx_level»)) (samplesOf (s .«dx_level»)) state time (diffOf (spacingOf (s .level)) (part (0 * n) n state)) ≡ frameOf s (stateIn n time state)
+unfolding frameOf sampleOf stateIn totalEnergyOf
+output-frame s time state = simp append-assoc
 
 -- where a frame can be written: settings without fault, and room in the three memories
 pub record FrameRoom (s : Settings) (stateLength workLength framesLength at : ℕ) : Type 0 where

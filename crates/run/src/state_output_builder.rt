@@ -8,7 +8,7 @@ ghost use Rattle.vectors.specs.Memory.{part, put};
 ghost use Rattle.physics.specs.State.{stateIn};
 ghost use Rattle.physics.specs.TotalEnergy.{lastOf};
 ghost use Rattle.run.specs.Frames.{samplesOf, frameSizeOf, frameOf};
-ghost use Rattle.run.specs.FramesLaws.{everyOf, Sampling, Vectors, fieldsOf, constraintsOf, energyOf, FrameRoom};
+ghost use Rattle.run.specs.FramesLaws.{everyOf, Sampling, Vectors, fieldsOf, constraintsOf, energyOf, outputOf, FrameRoom};
 ghost use Rattle.run.specs.WriteLaws.{Wrote};
 use crate::settings::Settings;
 use physics::state::total_energy;
@@ -88,4 +88,46 @@ fn write_fields(state: &[f64], radial_gradient: &[f64], n: usize, step: usize, c
     write_vector(state, n, FIELD, step, count, frames, at);
     reduce_spatial_resolution(radial_gradient, step, count, frames, second);
     write_vector(state, n, CONJ_MOMENTUM, step, count, frames, third);
+}
+
+// Writes the constraint variables: mass, radial factor, lapse, char speed, energy density.
+fn write_constraints(state: &[f64], n: usize, step: usize, count: usize, frames: &mut [f64], at: usize)
+    requires { ⌜ Vectors n step count (length (now state)) × (at + 5 * count ≤ length (now frames)) ⌝ }
+    ensures { λ _. ⌜ Wrote at (constraintsOf n step count (now (state .entry))) (now (frames .entry)) (now (frames .exit)) ⌝ }
+{
+    let second = at + count;
+    let third = second + count;
+    let fourth = third + count;
+    let fifth = fourth + count;
+    write_vector(state, n, MASS, step, count, frames, at);
+    write_vector(state, n, RADIAL_FACTOR, step, count, frames, second);
+    write_vector(state, n, LAPSE, step, count, frames, third);
+    write_vector(state, n, CHAR_SPEED, step, count, frames, fourth);
+    write_vector(state, n, ENERGY_DENSITY, step, count, frames, fifth);
+}
+
+// Writes the total energy and the alternate mass.
+fn write_energy(state: &[f64], n: usize, step: usize, count: usize, frames: &mut [f64], at: usize)
+    requires { ⌜ Vectors n step count (length (now state)) × (at + 1 + count ≤ length (now frames)) ⌝ }
+    ensures { λ _. ⌜ Wrote at (energyOf n step count (now (state .entry))) (now (frames .entry)) (now (frames .exit)) ⌝ }
+{
+    let from = MASS * n;
+    let end = from + n;
+    let after = at + 1;
+    frames[at] = total_energy(&state[from..end]);
+    write_vector(state, n, ALTERNATE_MASS, step, count, frames, after);
+}
+
+// Writes the time and the three groups.
+fn write_output(time: f64, state: &[f64], radial_gradient: &[f64], n: usize, step: usize, count: usize, frames: &mut [f64], at: usize)
+    requires { ⌜ Vectors n step count (length (now state)) × (length (now «radial_gradient») ≡ n) × (at + (2 + 9 * count) ≤ length (now frames)) ⌝ }
+    ensures { λ _. ⌜ Wrote at (outputOf n step count (now (state .entry)) time (now («radial_gradient» .entry))) (now (frames .entry)) (now (frames .exit)) ⌝ }
+{
+    let fields = at + 1;
+    let constraints = fields + 3 * count;
+    let energy = constraints + 5 * count;
+    frames[at] = time;
+    write_fields(state, radial_gradient, n, step, count, frames, fields);
+    write_constraints(state, n, step, count, frames, constraints);
+    write_energy(state, n, step, count, frames, energy);
 }

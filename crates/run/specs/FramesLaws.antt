@@ -11,7 +11,7 @@ use lib.ListN.{length, getD, length-append}
 use lib.Pow.{pow-add, pow-mono}
 use lib.Ieee.{Float, nan}
 use Rattle.vectors.specs.Grid.{pointsOf, spacingOf}
-use Rattle.vectors.specs.GridLaws.{points-in}
+use Rattle.vectors.specs.GridLaws.{Level, points-in}
 use Rattle.vectors.specs.Memory.{tab, part}
 use Rattle.vectors.specs.MemoryLaws.{side, length-tab}
 use Rattle.vectors.specs.Stencil.{diffOf}
@@ -116,6 +116,13 @@ pub output-frame : (s : Settings) (time : Float) (state : List Float) → let n 
     outputOf n (2 ^ (s .level - s .«dx_level»)) (samplesOf (s .«dx_level»)) state time (diffOf (spacingOf (s .level)) (part (0 * n) n state)) ≡ frameOf s (stateIn n time state)
 unfolding frameOf sampleOf stateIn totalEnergyOf
 output-frame s time state = simp append-assoc
+
+-- where the radial gradient can be taken: a field of n points, and room for as many numbers from a place on
+pub record GradientRoom (level n stateLength workLength from : ℕ) : Type 0 where
+  pub ranged : Level level
+  pub points : n ≡ pointsOf level
+  pub state : n ≤ stateLength
+  pub work : from + n ≤ workLength
 
 -- where a frame can be written: settings without fault, and room in the three memories
 pub record FrameRoom (s : Settings) (stateLength workLength framesLength at : ℕ) : Type 0 where

@@ -3,12 +3,13 @@ ghost use mathlib.Core.Path.{_≡_};
 ghost use mathlib.Core.List.{_++_, _∷_};
 ghost use Prim.Native.Nat.{_+_, _*_, _≤_};
 ghost use lib.ListN.{length, drop};
-ghost use Rattle.vectors.specs.Grid.{pointsOf};
+ghost use Rattle.vectors.specs.Grid.{pointsOf, spacingOf};
 ghost use Rattle.vectors.specs.Memory.{part, put};
+ghost use Rattle.vectors.specs.Stencil.{diffOf};
 ghost use Rattle.physics.specs.State.{stateIn};
 ghost use Rattle.physics.specs.TotalEnergy.{lastOf};
 ghost use Rattle.run.specs.Frames.{samplesOf, frameSizeOf, frameOf};
-ghost use Rattle.run.specs.FramesLaws.{everyOf, Sampling, Vectors, fieldsOf, constraintsOf, energyOf, outputOf, FrameRoom};
+ghost use Rattle.run.specs.FramesLaws.{everyOf, Sampling, Vectors, fieldsOf, constraintsOf, energyOf, outputOf, GradientRoom, FrameRoom};
 ghost use Rattle.run.specs.WriteLaws.{Wrote};
 use crate::settings::Settings;
 use physics::state::total_energy;
@@ -130,4 +131,13 @@ fn write_output(time: f64, state: &[f64], radial_gradient: &[f64], n: usize, ste
     write_fields(state, radial_gradient, n, step, count, frames, fields);
     write_constraints(state, n, step, count, frames, constraints);
     write_energy(state, n, step, count, frames, energy);
+}
+
+// The radial gradient of the field, into the n numbers of work memory from `from` on.
+fn compute_radial_gradient(level: u32, n: usize, state: &[f64], work: &mut [f64], from: usize)
+    requires { ⌜ GradientRoom level n (length (now state)) (length (now work)) from ⌝ }
+    ensures { λ _. ⌜ Wrote from (diffOf (spacingOf level) (part (0 * n) n (now (state .entry)))) (now (work .entry)) (now (work .exit)) ⌝ }
+{
+    let end = from + n;
+    diff(level, &state[0..n], &mut work[from..end]);
 }

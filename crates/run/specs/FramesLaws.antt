@@ -42,6 +42,10 @@ unfolding sampleOf
 length-sample level dx xs = length-tab (samplesOf dx) _
 
 -- ---- the size of a frame
+pub frame-size : (s : Settings) → frameSizeOf s ≡ 2 + 9 * samplesOf (s .«dx_level»)
+unfolding frameSizeOf
+frame-size s = refl
+
 pub frame-size-positive : (s : Settings) → 0 < frameSizeOf s
 unfolding frameSizeOf
 frame-size-positive s = omega arith

@@ -71,16 +71,31 @@ fn write_vector(
 
 // The numbers of the vectors in state memory.
 const FIELD: usize = 0;
+
 const CONJ_MOMENTUM: usize = 1;
+
 const ALTERNATE_MASS: usize = 2;
+
 const ENERGY_DENSITY: usize = 3;
+
 const MASS: usize = 4;
+
 const RADIAL_FACTOR: usize = 5;
+
 const LAPSE: usize = 6;
+
 const CHAR_SPEED: usize = 7;
 
 // Writes the fields: the scalar field, its radial gradient and its conjugate momentum.
-fn write_fields(state: &[f64], radial_gradient: &[f64], n: usize, step: usize, count: usize, frames: &mut [f64], at: usize)
+fn write_fields(
+    state: &[f64],
+    radial_gradient: &[f64],
+    n: usize,
+    step: usize,
+    count: usize,
+    frames: &mut [f64],
+    at: usize,
+)
     requires { ⌜ Vectors n step count (length (now state)) × (length (now «radial_gradient») ≡ n) × (at + 3 * count ≤ length (now frames)) ⌝ }
     ensures { λ _. ⌜ Wrote at (fieldsOf n step count (now (state .entry)) (now («radial_gradient» .entry))) (now (frames .entry)) (now (frames .exit)) ⌝ }
 {
@@ -92,7 +107,14 @@ fn write_fields(state: &[f64], radial_gradient: &[f64], n: usize, step: usize, c
 }
 
 // Writes the constraint variables: mass, radial factor, lapse, char speed, energy density.
-fn write_constraints(state: &[f64], n: usize, step: usize, count: usize, frames: &mut [f64], at: usize)
+fn write_constraints(
+    state: &[f64],
+    n: usize,
+    step: usize,
+    count: usize,
+    frames: &mut [f64],
+    at: usize,
+)
     requires { ⌜ Vectors n step count (length (now state)) × (at + 5 * count ≤ length (now frames)) ⌝ }
     ensures { λ _. ⌜ Wrote at (constraintsOf n step count (now (state .entry))) (now (frames .entry)) (now (frames .exit)) ⌝ }
 {
@@ -120,7 +142,16 @@ fn write_energy(state: &[f64], n: usize, step: usize, count: usize, frames: &mut
 }
 
 // Writes the time and the three groups.
-fn write_output(time: f64, state: &[f64], radial_gradient: &[f64], n: usize, step: usize, count: usize, frames: &mut [f64], at: usize)
+fn write_output(
+    time: f64,
+    state: &[f64],
+    radial_gradient: &[f64],
+    n: usize,
+    step: usize,
+    count: usize,
+    frames: &mut [f64],
+    at: usize,
+)
     requires { ⌜ Vectors n step count (length (now state)) × (length (now «radial_gradient») ≡ n) × (at + (2 + 9 * count) ≤ length (now frames)) ⌝ }
     ensures { λ _. ⌜ Wrote at (outputOf n step count (now (state .entry)) time (now («radial_gradient» .entry))) (now (frames .entry)) (now (frames .exit)) ⌝ }
 {
@@ -140,4 +171,27 @@ fn compute_radial_gradient(level: u32, n: usize, state: &[f64], work: &mut [f64]
 {
     let end = from + n;
     diff(level, &state[0..n], &mut work[from..end]);
+}
+
+// Writes the frame of a state from number `at` of frame memory on. The radial gradient is left in work memory.
+pub(crate) fn write_frame(
+    s: Settings,
+    time: f64,
+    state: &[f64],
+    work: &mut [f64],
+    frames: &mut [f64],
+    at: usize,
+)
+    requires { ⌜ FrameRoom s (length (now state)) (length (now work)) (length (now frames)) at ⌝ }
+    ensures { λ _. ⌜ (now (frames .exit) ≡ put at (frameOf s (stateIn (pointsOf (s .level)) time (now (state .entry)))) (now (frames .entry)))
+        × (drop (40 * pointsOf (s .level)) (now (work .exit)) ≡ drop (40 * pointsOf (s .level)) (now (work .entry)))
+        × (length (now (work .exit)) ≡ length (now (work .entry))) ⌝ }
+{
+    let n = length_at_discretization(s.level);
+    let count = samples(s.dx_level);
+    let step = 1usize << (s.level - s.dx_level);
+    let from = 17 * n;
+    let end = from + n;
+    compute_radial_gradient(s.level, n, state, work, from);
+    write_output(time, state, &work[from..end], n, step, count, frames, at);
 }

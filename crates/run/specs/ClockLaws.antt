@@ -5,11 +5,12 @@ use mathlib.Core.List.{List}
 use Prim.Native.Nat.{ℕ, _+_, _-_, _*_, _/_, _≤_, _<_}
 use native.Mathlib.Nat.{div-add-mod', mod-lt}
 use native.Mathlib.Omega.{arith}
-use lib.Ieee.{Float, binary64, lt, le, mul}
-use Rattle.vectors.specs.Constants.{bhRadialFactorTracking, bhSlowdownFactor, eps}
+use lib.Ieee.{Float, binary64, ofBits, lt, le, mul}
+use Rattle.vectors.specs.Constants.{eps, constant-bits}
+use Rattle.vectors.specs.Grid.{spacingOf}
 use Rattle.vectors.specs.TotalOrder.{minimumOf}
 use Rattle.run.specs.declared.settings.Settings.{Settings}
-use Rattle.run.specs.Clock.{wholeBelow, wholeAbove, courantStepOf, baseStepOf, timeToNextOf, isFrameStep, deltaOf}
+use Rattle.run.specs.Clock.{wholeBelow, wholeAbove, baseStepOf, timeToNextOf, isFrameStep, deltaOf}
 
 pub whole-below : (a d : ℕ) → 0 < d → (wholeBelow a d * d ≤ a) × (a < wholeBelow a d * d + d)
 whole-below a d D =
@@ -23,15 +24,26 @@ whole-above a d D =
     let l = mod-lt (a + (d - 1)) D in
     (omega arith, omega arith)
 
--- ---- the base
-module _ (s : Settings) (radialFactor : List Float) where
-  pub base-slowed : lt (minimumOf radialFactor) bhRadialFactorTracking ≡ true → mul binary64 (courantStepOf s) bhSlowdownFactor ≡ baseStepOf s radialFactor
-  unfolding baseStepOf
-  base-slowed e = rw e
+-- ---- the base, of a spacing and a least radial factor, with the constants' bits
+abbrev courant : Float
+courant = ofBits binary64 0x3FEE666666666666
 
-  pub base-full : lt (minimumOf radialFactor) bhRadialFactorTracking ≡ false → courantStepOf s ≡ baseStepOf s radialFactor
+abbrev tracking : Float
+tracking = ofBits binary64 0x3FB999999999999A
+
+abbrev slowdown : Float
+slowdown = ofBits binary64 0x3FD0000000000000
+
+module _ (s : Settings) (radialFactor : List Float) {h least : Float} (spacing : h ≡ spacingOf (s .level)) (minimum : least ≡ minimumOf radialFactor) where
+  base-by : {b : Bool} → lt least tracking ≡ b → cond b (mul binary64 (mul binary64 h courant) slowdown) (mul binary64 h courant) ≡ baseStepOf s radialFactor
   unfolding baseStepOf
-  base-full e = rw e
+  base-by e = cc (constant-bits .0, constant-bits .2, constant-bits .3)
+
+  pub base-slowed : lt least tracking ≡ true → mul binary64 (mul binary64 h courant) slowdown ≡ baseStepOf s radialFactor
+  base-slowed e = base-by e
+
+  pub base-full : lt least tracking ≡ false → mul binary64 h courant ≡ baseStepOf s radialFactor
+  base-full e = base-by e
 
 -- ---- a step
 module _ (s : Settings) (time : Float) (radialFactor : List Float) where

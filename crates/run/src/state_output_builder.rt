@@ -9,12 +9,29 @@ ghost use Rattle.vectors.specs.Stencil.{diffOf};
 ghost use Rattle.physics.specs.State.{stateIn};
 ghost use Rattle.physics.specs.TotalEnergy.{lastOf};
 ghost use Rattle.run.specs.Frames.{samplesOf, frameSizeOf, frameOf};
-ghost use Rattle.run.specs.FramesLaws.{everyOf, Sampling, Vectors, fieldsOf, constraintsOf, energyOf, outputOf, GradientRoom, FrameRoom};
+ghost use Rattle.run.specs.FrameWriting.{everyOf, Sampling, Vectors, fieldsOf, constraintsOf, energyOf, outputOf, GradientRoom, FrameRoom};
 ghost use Rattle.run.specs.WriteLaws.{Wrote};
 use crate::settings::Settings;
 use physics::state::total_energy;
 use vectors::diff::diff;
 use vectors::grid::length_at_discretization;
+
+// The numbers of the vectors in state memory.
+const FIELD: usize = 0;
+
+const CONJ_MOMENTUM: usize = 1;
+
+const ALTERNATE_MASS: usize = 2;
+
+const ENERGY_DENSITY: usize = 3;
+
+const MASS: usize = 4;
+
+const RADIAL_FACTOR: usize = 5;
+
+const LAPSE: usize = 6;
+
+const CHAR_SPEED: usize = 7;
 
 // The numbers of a frame.
 pub fn frame_size(s: Settings) -> usize
@@ -33,58 +50,60 @@ fn samples(dx_level: u32) -> usize
     (1usize << dx_level) + 1
 }
 
-// Writes the samples of a vector: every step-th number, count of them.
-fn reduce_spatial_resolution(
-    vector: &[f64],
-    step: usize,
-    count: usize,
-    frames: &mut [f64],
-    at: usize,
-)
-    requires { ⌜ Sampling (length (now vector)) step count × (at + count ≤ length (now frames)) ⌝ }
-    ensures { λ _. ⌜ Wrote at (everyOf step count (now (vector .entry))) (now (frames .entry)) (now (frames .exit)) ⌝ }
-{
-    let mut j = 0;
-    while j < count {
-        frames[at + j] = vector[j * step];
-        j += 1;
-    }
-}
-
-// The same of vector k of the state, whose vectors have n numbers each.
-fn write_vector(
+// Writes the frame of a state from number `at` of frame memory on. The radial gradient is left in work memory.
+pub(crate) fn write_frame(
+    s: Settings,
+    time: f64,
     state: &[f64],
+    work: &mut [f64],
+    frames: &mut [f64],
+    at: usize,
+)
+    requires { ⌜ FrameRoom s (length (now state)) (length (now work)) (length (now frames)) at ⌝ }
+    ensures { λ _. ⌜ (now (frames .exit) ≡ put at (frameOf s (stateIn (pointsOf (s .level)) time (now (state .entry)))) (now (frames .entry)))
+        × (drop (40 * pointsOf (s .level)) (now (work .exit)) ≡ drop (40 * pointsOf (s .level)) (now (work .entry)))
+        × (length (now (work .exit)) ≡ length (now (work .entry))) ⌝ }
+{
+    let n = length_at_discretization(s.level);
+    let count = samples(s.dx_level);
+    let step = 1usize << (s.level - s.dx_level);
+    let from = 17 * n;
+    let end = from + n;
+    compute_radial_gradient(s.level, n, state, work, from);
+    write_output(time, state, &work[from..end], n, step, count, frames, at);
+}
+
+// The radial gradient of the field, into the n numbers of work memory from `from` on.
+fn compute_radial_gradient(level: u32, n: usize, state: &[f64], work: &mut [f64], from: usize)
+    requires { ⌜ GradientRoom level n (length (now state)) (length (now work)) from ⌝ }
+    ensures { λ _. ⌜ Wrote from (diffOf (spacingOf level) (part (0 * n) n (now (state .entry)))) (now (work .entry)) (now (work .exit)) ⌝ }
+{
+    let end = from + n;
+    diff(level, &state[0..n], &mut work[from..end]);
+}
+
+// Writes the time and the three groups.
+fn write_output(
+    time: f64,
+    state: &[f64],
+    radial_gradient: &[f64],
     n: usize,
-    k: usize,
     step: usize,
     count: usize,
     frames: &mut [f64],
     at: usize,
 )
-    requires { ⌜ Sampling n step count × (k * n + n ≤ length (now state)) × (at + count ≤ length (now frames)) ⌝ }
-    ensures { λ _. ⌜ Wrote at (everyOf step count (part (k * n) n (now (state .entry)))) (now (frames .entry)) (now (frames .exit)) ⌝ }
+    requires { ⌜ Vectors n step count (length (now state)) × (length (now «radial_gradient») ≡ n) × (at + (2 + 9 * count) ≤ length (now frames)) ⌝ }
+    ensures { λ _. ⌜ Wrote at (outputOf n step count (now (state .entry)) time (now («radial_gradient» .entry))) (now (frames .entry)) (now (frames .exit)) ⌝ }
 {
-    let from = k * n;
-    let end = from + n;
-    reduce_spatial_resolution(&state[from..end], step, count, frames, at);
+    let fields = at + 1;
+    let constraints = fields + 3 * count;
+    let energy = constraints + 5 * count;
+    frames[at] = time;
+    write_fields(state, radial_gradient, n, step, count, frames, fields);
+    write_constraints(state, n, step, count, frames, constraints);
+    write_energy(state, n, step, count, frames, energy);
 }
-
-// The numbers of the vectors in state memory.
-const FIELD: usize = 0;
-
-const CONJ_MOMENTUM: usize = 1;
-
-const ALTERNATE_MASS: usize = 2;
-
-const ENERGY_DENSITY: usize = 3;
-
-const MASS: usize = 4;
-
-const RADIAL_FACTOR: usize = 5;
-
-const LAPSE: usize = 6;
-
-const CHAR_SPEED: usize = 7;
 
 // Writes the fields: the scalar field, its radial gradient and its conjugate momentum.
 fn write_fields(
@@ -141,57 +160,38 @@ fn write_energy(state: &[f64], n: usize, step: usize, count: usize, frames: &mut
     write_vector(state, n, ALTERNATE_MASS, step, count, frames, after);
 }
 
-// Writes the time and the three groups.
-fn write_output(
-    time: f64,
+// The same of vector k of the state, whose vectors have n numbers each.
+fn write_vector(
     state: &[f64],
-    radial_gradient: &[f64],
     n: usize,
+    k: usize,
     step: usize,
     count: usize,
     frames: &mut [f64],
     at: usize,
 )
-    requires { ⌜ Vectors n step count (length (now state)) × (length (now «radial_gradient») ≡ n) × (at + (2 + 9 * count) ≤ length (now frames)) ⌝ }
-    ensures { λ _. ⌜ Wrote at (outputOf n step count (now (state .entry)) time (now («radial_gradient» .entry))) (now (frames .entry)) (now (frames .exit)) ⌝ }
+    requires { ⌜ Sampling n step count × (k * n + n ≤ length (now state)) × (at + count ≤ length (now frames)) ⌝ }
+    ensures { λ _. ⌜ Wrote at (everyOf step count (part (k * n) n (now (state .entry)))) (now (frames .entry)) (now (frames .exit)) ⌝ }
 {
-    let fields = at + 1;
-    let constraints = fields + 3 * count;
-    let energy = constraints + 5 * count;
-    frames[at] = time;
-    write_fields(state, radial_gradient, n, step, count, frames, fields);
-    write_constraints(state, n, step, count, frames, constraints);
-    write_energy(state, n, step, count, frames, energy);
-}
-
-// The radial gradient of the field, into the n numbers of work memory from `from` on.
-fn compute_radial_gradient(level: u32, n: usize, state: &[f64], work: &mut [f64], from: usize)
-    requires { ⌜ GradientRoom level n (length (now state)) (length (now work)) from ⌝ }
-    ensures { λ _. ⌜ Wrote from (diffOf (spacingOf level) (part (0 * n) n (now (state .entry)))) (now (work .entry)) (now (work .exit)) ⌝ }
-{
+    let from = k * n;
     let end = from + n;
-    diff(level, &state[0..n], &mut work[from..end]);
+    reduce_spatial_resolution(&state[from..end], step, count, frames, at);
 }
 
-// Writes the frame of a state from number `at` of frame memory on. The radial gradient is left in work memory.
-pub(crate) fn write_frame(
-    s: Settings,
-    time: f64,
-    state: &[f64],
-    work: &mut [f64],
+// Writes the samples of a vector: every step-th number, count of them.
+fn reduce_spatial_resolution(
+    vector: &[f64],
+    step: usize,
+    count: usize,
     frames: &mut [f64],
     at: usize,
 )
-    requires { ⌜ FrameRoom s (length (now state)) (length (now work)) (length (now frames)) at ⌝ }
-    ensures { λ _. ⌜ (now (frames .exit) ≡ put at (frameOf s (stateIn (pointsOf (s .level)) time (now (state .entry)))) (now (frames .entry)))
-        × (drop (40 * pointsOf (s .level)) (now (work .exit)) ≡ drop (40 * pointsOf (s .level)) (now (work .entry)))
-        × (length (now (work .exit)) ≡ length (now (work .entry))) ⌝ }
+    requires { ⌜ Sampling (length (now vector)) step count × (at + count ≤ length (now frames)) ⌝ }
+    ensures { λ _. ⌜ Wrote at (everyOf step count (now (vector .entry))) (now (frames .entry)) (now (frames .exit)) ⌝ }
 {
-    let n = length_at_discretization(s.level);
-    let count = samples(s.dx_level);
-    let step = 1usize << (s.level - s.dx_level);
-    let from = 17 * n;
-    let end = from + n;
-    compute_radial_gradient(s.level, n, state, work, from);
-    write_output(time, state, &work[from..end], n, step, count, frames, at);
+    let mut j = 0;
+    while j < count {
+        frames[at + j] = vector[j * step];
+        j += 1;
+    }
 }

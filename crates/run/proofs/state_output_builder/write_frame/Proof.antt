@@ -14,7 +14,8 @@ use Rattle.vectors.specs.StencilLaws.{length-diffOf}
 use Rattle.physics.specs.State.{stateIn}
 use Rattle.run.specs.declared.settings.Settings.{Settings}
 use Rattle.run.specs.Frames.{samplesOf, frameOf}
-use Rattle.run.specs.FramesLaws.{Vectors, FrameRoom, frame-size, sampling-points, outputOf, output-frame}
+use Rattle.run.specs.FramesLaws.{frame-size}
+use Rattle.run.specs.FrameWriting.{Vectors, FrameRoom, sampling-points, outputOf, output-frame}
 use Rattle.run.specs.WriteLaws.{Wrote, drop-put, wrote-length}
 use Rattle.run.proofs.state_output_builder.Shifts.{shifted}
 use Rattle.run.proofs.state_output_builder.write_frame.Statement.{statement}

@@ -3,7 +3,7 @@ use mathlib.Core.Path.{_≡_, refl, _∙_}
 use native.Mathlib.Omega.{arith}
 use borrow.Author.Needs.{needs}
 use lib.ListN.{length, length-set}
-use Rattle.run.specs.FramesLaws.{wrote-output}
+use Rattle.run.specs.FrameWriting.{wrote-output}
 use Rattle.run.specs.WriteLaws.{wrote-length, wrote-one}
 use Rattle.run.proofs.state_output_builder.write_output.Statement.{statement}
 use Rattle.run.proofs.state_output_builder.write_output.Tie as tie

@@ -2,7 +2,7 @@
 use mathlib.Core.Path.{_≡_, refl, ap}
 use mathlib.Core.Bool.{Bool, true, false, not, cond, _&&_, _||_}
 use mathlib.Core.List.{List}
-use Prim.Native.Nat.{ℕ, _+_, _-_, _*_, _/_, _≤_, _<_}
+use Prim.Native.Nat.{ℕ, _+_, _-_, _*_, _≤_, _<_}
 use native.Mathlib.Nat.{div-add-mod', mod-lt}
 use native.Mathlib.Omega.{arith}
 use lib.Ieee.{Float, binary64, ofBits, lt, le, mul}
@@ -12,12 +12,14 @@ use Rattle.vectors.specs.TotalOrder.{minimumOf}
 use Rattle.run.specs.declared.settings.Settings.{Settings}
 use Rattle.run.specs.Clock.{wholeBelow, wholeAbove, baseStepOf, timeToNextOf, isFrameStep, deltaOf}
 
+-- ---- a floor: the whole number is not above, and the next one is
 pub whole-below : (a d : ℕ) → 0 < d → (wholeBelow a d * d ≤ a) × (a < wholeBelow a d * d + d)
 whole-below a d D =
     let e = div-add-mod' a d in
     let l = mod-lt a D in
     (omega arith, omega arith)
 
+-- not below, and the one before is
 pub whole-above : (a d : ℕ) → 0 < d → (a ≤ wholeAbove a d * d) × (wholeAbove a d * d < a + d)
 whole-above a d D =
     let e = div-add-mod' (a + (d - 1)) d in

@@ -1,11 +1,10 @@
 -- What settings without fault are, and the clauses of `faultAt`.
-use mathlib.Core.Path.{_≡_, refl, sym, ap, _∙_}
+use mathlib.Core.Path.{_≡_, refl, _∙_}
 use mathlib.Core.Bool.{Bool, true, false, cond}
 use mathlib.Core.Option.{Option, none, some}
 use Prim.Native.Nat.{ℕ, _≤_, _<_}
 use native.Mathlib.Omega.{arith}
 use borrow.Author.Tests.{ltb-false, le-ltb, lt-ltb}
-use lib.Dec.{ltb}
 use Rattle.vectors.specs.Grid.{levelInRange}
 use Rattle.vectors.specs.GridLaws.{Level, level-of, in-range}
 use Rattle.run.specs.declared.settings.Settings.{Settings}

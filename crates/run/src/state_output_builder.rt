@@ -1,13 +1,11 @@
 // From use_cases/state_output_builder.rs: a frame, which is the fields of `StateOutput` one after another.
 ghost use mathlib.Core.Path.{_≡_};
-ghost use mathlib.Core.List.{_++_, _∷_};
 ghost use Prim.Native.Nat.{_+_, _*_, _≤_};
 ghost use lib.ListN.{length, drop};
 ghost use Rattle.vectors.specs.Grid.{pointsOf, spacingOf};
 ghost use Rattle.vectors.specs.Memory.{part, put};
 ghost use Rattle.vectors.specs.Stencil.{diffOf};
 ghost use Rattle.physics.specs.State.{stateIn};
-ghost use Rattle.physics.specs.TotalEnergy.{lastOf};
 ghost use Rattle.run.specs.Frames.{samplesOf, frameSizeOf, frameOf};
 ghost use Rattle.run.specs.FrameWriting.{everyOf, Sampling, Vectors, fieldsOf, constraintsOf, energyOf, outputOf, GradientRoom, FrameRoom};
 ghost use Rattle.run.specs.WriteLaws.{Wrote};
@@ -16,7 +14,7 @@ use physics::state::total_energy;
 use vectors::diff::diff;
 use vectors::grid::length_at_discretization;
 
-// The numbers of the vectors in state memory.
+// Where each vector stands in state memory: after so many others.
 const FIELD: usize = 0;
 
 const CONJ_MOMENTUM: usize = 1;
@@ -82,7 +80,7 @@ fn compute_radial_gradient(level: u32, n: usize, state: &[f64], work: &mut [f64]
     diff(level, &state[0..n], &mut work[from..end]);
 }
 
-// Writes the time and the three groups.
+// Writes a frame whose radial gradient is at hand.
 fn write_output(
     time: f64,
     state: &[f64],
@@ -160,7 +158,7 @@ fn write_energy(state: &[f64], n: usize, step: usize, count: usize, frames: &mut
     write_vector(state, n, ALTERNATE_MASS, step, count, frames, after);
 }
 
-// The same of vector k of the state, whose vectors have n numbers each.
+// Writes the samples of vector k of the state, whose vectors have n numbers each.
 fn write_vector(
     state: &[f64],
     n: usize,
@@ -178,7 +176,7 @@ fn write_vector(
     reduce_spatial_resolution(&state[from..end], step, count, frames, at);
 }
 
-// Writes the samples of a vector: every step-th number, count of them.
+// Writes the samples of a vector: every step-th number from the first on, count of them.
 fn reduce_spatial_resolution(
     vector: &[f64],
     step: usize,

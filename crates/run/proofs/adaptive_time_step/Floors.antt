@@ -1,14 +1,14 @@
 -- What `floor` leaves to show: below 2^52 in size the whole part is cut off as a `u64`, and one is added to the size of a negative number with a fraction.
 use mathlib.Core.Path.{_≡_, refl, sym, ap, _∙_, subst}
-use mathlib.Core.Bool.{Bool, true, false, not, cond, _&&_, true≢false, false≢true}
+use mathlib.Core.Bool.{Bool, true, false, cond, _&&_, true≢false, false≢true}
 use Prim.Native.Nat.{ℕ, zero, suc, _+_, _-_, _*_, _/_, _%_, _^_, _≤_, _<_, min}
-use native.Mathlib.Nat.{mul-one, one-mul, mul-assoc, mul-comm, mul-right-comm, mul-pos, add-mul, zero-lt-suc, le-antisymm, le-of-eq, le-trans, lt-of-lt-of-le, lt-of-le-of-lt, le-of-mul-le-mul-right, lt-of-mul-lt-mul-right, mul-le-mul-right, mul-lt-mul-of-pos-right, le-div-iff-mul-le, div-lt-iff-lt-mul, div-mul-le-self, div-add-mod', mod-lt}
+use native.Mathlib.Nat.{mul-one, one-mul, mul-assoc, mul-right-comm, add-mul, zero-lt-suc, le-of-eq, le-trans, lt-of-le-of-lt, le-of-mul-le-mul-right, lt-of-mul-lt-mul-right, mul-lt-mul-of-pos-right, le-div-iff-mul-le, div-lt-iff-lt-mul, div-add-mod', mod-lt}
 use native.Mathlib.Omega.{arith}
 use lib.IntN.{ℤ, pos, negsuc}
-use lib.Dec.{T, ltb, leb, eqb, lt→ltb, ltb→lt, eqb→eq, le→leb}
+use lib.Dec.{T, ltb, leb, eqb, lt→ltb, ltb→lt, le→leb}
 use lib.Pow.{pow-add, pow-pos, pow-mono}
 use lib.Ieee.{Float, nan, inf, fin, binary64, up, down, odd, units, round, lt, neg, ofInt, toUnsigned, inFloat, fits}
-use lib.Ieee.Fits.{down-pos, up-pos, and-l, and-r, round-is, round-fits}
+use lib.Ieee.Fits.{down-pos, and-l, and-r, round-is, round-fits}
 use lib.Ieee.Exact.{HasValue, round-exact}
 use lib.Ieee.Back.{round-whole, whole-unique}
 use borrow.Author.Tests.{ltb-true, ltb-false}

@@ -1,5 +1,5 @@
 -- `run::adaptive_time_step::floor` meets its contract.
-use mathlib.Core.Path.{_≡_, sym, subst}
+use mathlib.Core.Path.{sym, subst}
 use mathlib.Core.Bool.{true, false}
 use Prim.Native.Nat.{_<_, _+_}
 use native.Mathlib.Omega.{arith}

@@ -1,5 +1,4 @@
 -- `run::adaptive_time_step::time_to_next_frame` meets its contract.
-use mathlib.Core.Path.{refl}
 use borrow.Author.Needs.{needs}
 use lib.Ieee.{ofBits}
 use Rattle.run.specs.Clock.{timeToNextOf}

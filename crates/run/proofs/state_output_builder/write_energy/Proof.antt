@@ -1,5 +1,5 @@
 -- `run::state_output_builder::write_energy` meets its contract.
-use mathlib.Core.Path.{_≡_, refl, sym, ap, _∙_}
+use mathlib.Core.Path.{refl, ap, _∙_}
 use mathlib.Core.List.{List}
 use Prim.Native.Nat.{_*_, _+_}
 use native.Mathlib.Omega.{arith}

@@ -1,5 +1,5 @@
 -- `run::state_output_builder::write_frame` meets its contract.
-use mathlib.Core.Path.{_≡_, refl, sym, ap, _∙_}
+use mathlib.Core.Path.{_≡_, refl, ap, _∙_}
 use mathlib.Core.List.{List}
 use Prim.Native.Nat.{ℕ, _+_, _*_, _-_, _%_, _^_, _≤_}
 use native.Mathlib.Omega.{arith}
@@ -22,8 +22,8 @@ use Rattle.run.proofs.state_output_builder.write_frame.Statement.{state
 use Rattle.run.proofs.state_output_builder.write_frame.Tie as tie
 
 -- the part of work memory that holds the radial gradient
-abbrev held : ℕ → List Float → List Float
-held n work = take (17 * n + n - 17 * n) (drop (17 * n) work)
+abbrev held : ℕ → ℕ → List Float → List Float
+held from n work = take (from + n - from) (drop from work)
 
 abbrev gradientOf : Settings → ℕ → List Float → List Float
 gradientOf s n state = diffOf (spacingOf (s .level)) (part (0 * n) n state)
@@ -46,22 +46,22 @@ module _ {s : Settings} {state work₀ frames₀ : List Float} {at n count step 
   frames-room : at + (2 + 9 * count) ≤ length frames₀
   frames-room = omega (arith, r .room .frames, frame-size s, r .samples)
 
-  module _ {work : List Float} (wrote : Wrote (17 * n) (gradientOf s n state) work₀ work) where
-    held-is : held n work ≡ gradientOf s n state
+  module _ {from : ℕ} {work : List Float} (wrote : Wrote from (gradientOf s n state) work₀ work) where
+    held-is : held from n work ≡ gradientOf s n state
     held-is =
-        lent (17 * n) (17 * n + n) n work refl
-        ∙ ap (part (17 * n) n) (wrote .is)
-        ∙ part-of-put (17 * n) n (gradientOf s n state) work₀ nan length-gradient (omega (arith, wrote .within, length-gradient))
+        lent from (from + n) n work refl
+        ∙ ap (part from n) (wrote .is)
+        ∙ part-of-put from n (gradientOf s n state) work₀ nan length-gradient (omega (arith, wrote .within, length-gradient))
 
-    length-held : length (held n work) ≡ n
+    length-held : length (held from n work) ≡ n
     length-held = ap length held-is ∙ length-gradient
 
-    rest-same : drop (40 * pointsOf (s .level)) work ≡ drop (40 * pointsOf (s .level)) work₀
-    rest-same =
+    rest-same : from + n ≤ 40 * n → drop (40 * pointsOf (s .level)) work ≡ drop (40 * pointsOf (s .level)) work₀
+    rest-same h =
         ap (drop (40 * pointsOf (s .level))) (wrote .is)
-        ∙ drop-put (17 * n) (gradientOf s n state) work₀ (40 * pointsOf (s .level)) (wrote .within) (omega (arith, length-gradient, r .points))
+        ∙ drop-put from (gradientOf s n state) work₀ (40 * pointsOf (s .level)) (wrote .within) (omega (arith, length-gradient, r .points))
 
-    frame-written : {time : Float} {frames : List Float} → Wrote at (outputOf n step count state time (held n work)) frames₀ frames
+    frame-written : {time : Float} {frames : List Float} → Wrote at (outputOf n step count state time (held from n work)) frames₀ frames
         → frames ≡ put at (frameOf s (stateIn (pointsOf (s .level)) time state)) frames₀
     frame-written {time} w =
         w .is
@@ -91,7 +91,7 @@ returns c =
     let gradient = output .before .before .before .before .before .before in
     let r = ready (gradient .before .before .before) in
     let wrote = gradient .compute-radial-gradient .ensures in
-    (frame-written r wrote (output .write-output .ensures), rest-same r wrote, wrote-length wrote)
+    (frame-written r wrote (output .write-output .ensures), rest-same r wrote (omega arith), wrote-length wrote)
 
 pub write-frame-spec : {M : Type 1} → statement M
 write-frame-spec =

@@ -1,9 +1,7 @@
 -- `run::state_output_builder::write_vector` meets its contract.
-use mathlib.Core.Path.{_≡_, refl, sym, ap, _∙_}
+use mathlib.Core.Path.{refl}
 use Prim.Native.Nat.{_*_, _+_}
-use native.Mathlib.Omega.{arith}
 use borrow.Author.Needs.{needs}
-use lib.ListN.{length}
 use Rattle.vectors.specs.MemoryLaws.{lent, length-part}
 use Rattle.run.proofs.state_output_builder.write_vector.Statement.{statement}
 use Rattle.run.proofs.state_output_builder.write_vector.Tie as tie

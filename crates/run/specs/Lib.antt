@@ -1,0 +1,12 @@
+pub mod Model
+pub mod ModelLaws
+pub mod PlainRun
+pub mod Tally
+pub mod Calls
+pub mod Demand
+pub mod FrameLaws
+pub mod PlainRunLaws
+pub mod CallsLaws
+pub mod OneCall
+pub mod DemandProof
+pub mod SkippedRun

@@ -1,6 +1,6 @@
 -- Laws of a memory with numbers put at its front: what stays, and frames one after another.
 use Prim.Native.Nat.{ℕ, zero, suc, _+_, _*_, _≤_, _<_}
-use mathlib.Core.List.{List, [], _∷_, _++_, flatten, append-assoc, append-nil}
+use mathlib.Core.List.{List, [], _∷_, _++_, flatten, append-assoc}
 use mathlib.Core.Path.{_≡_, refl, sym, _∙_, ap, ap₂}
 use native.Mathlib.Nat.{suc-mul}
 use native.Mathlib.Omega.{arith}
@@ -37,6 +37,11 @@ module _ (xs l : List Float) where
       rw (z, append-assoc)
       (ap (λ (r : List Float). xs ++ r)
       (sym (drop-append-le (length xs) (take k l) (drop k l) h) ∙ ap (drop (length xs)) (take-append-drop k l)))
+
+-- no numbers put
+pub put-nothing : (at : ℕ) (l : List Float) → put at [] l ≡ l
+unfolding put
+put-nothing at l = let z : at + 0 ≡ at = omega arith in rw z (take-append-drop at l)
 
 -- the front itself
 pub put-self : (n : ℕ) (l : List Float) → put 0 (take n l) l ≡ l
@@ -82,10 +87,10 @@ module _ {F : ℕ} where
   pub length-frames : {fs : List (List Float)} → Each F fs → (l : List Float) → length fs * F ≤ length l → length (withFrames fs l) ≡ length l
   length-frames {fs} e l h = length-put-front (flatten fs) l (omega (arith, length-flatten e))
 
-flatten-snoc : (fs : List (List Float)) (f : List Float) → flatten (fs ++ f ∷ []) ≡ flatten fs ++ f
+flatten-append : (fs gs : List (List Float)) → flatten (fs ++ gs) ≡ flatten fs ++ flatten gs
 unfolding flatten
-flatten-snoc [] f = append-nil f
-flatten-snoc (g ∷ fs) f = rw (flatten-snoc fs f, append-assoc)
+flatten-append [] gs = refl
+flatten-append (g ∷ fs) gs = rw (flatten-append fs gs, append-assoc)
 
 module _ (xs f l : List Float) (at : ℕ) (e : length xs ≡ at) where
   put-behind-front : put at f (xs ++ drop (length xs) l) ≡ xs ++ (f ++ drop (length xs + length f) l)
@@ -103,8 +108,10 @@ module _ (xs f l : List Float) (at : ℕ) (e : length xs ≡ at) where
       ∙ sym (append-assoc xs f (drop (length (xs ++ f)) l))
       ∙ sym (put-front (xs ++ f) l)
 
--- a frame put behind the frames
-pub put-frame :
-    {F : ℕ} {fs : List (List Float)} → Each F fs → (f l : List Float) → put (length fs * F) f (withFrames fs l) ≡ withFrames (fs ++ f ∷ []) l
-put-frame {F} {fs} e f l =
-    put-behind (flatten fs) f l (length fs * F) (length-flatten e) ∙ ap (λ (xs : List Float). put 0 xs l) (sym (flatten-snoc fs f))
+-- frames put behind frames
+pub put-frames :
+    {F : ℕ} {fs : List (List Float)} → Each F fs → (gs : List (List Float)) (l : List Float) →
+    put (length fs * F) (flatten gs) (withFrames fs l) ≡ withFrames (fs ++ gs) l
+put-frames {F} {fs} e gs l =
+    put-behind (flatten fs) (flatten gs) l (length fs * F) (length-flatten e)
+    ∙ ap (λ (xs : List Float). put 0 xs l) (sym (flatten-append fs gs))

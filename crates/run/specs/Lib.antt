@@ -3,6 +3,7 @@ pub mod ModelLaws
 pub mod PlainRun
 pub mod Tally
 pub mod Calls
+pub mod Answers
 pub mod Demand
 pub mod FrameLaws
 pub mod PlainRunLaws

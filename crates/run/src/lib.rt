@@ -1,2 +1,4 @@
 // Runs with budgeted advance.
+mod model;
 pub mod settings;
+pub mod simulate;

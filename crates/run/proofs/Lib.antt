@@ -1,0 +1,5 @@
+pub mod Leaves
+pub mod Stubs
+pub mod Ends
+pub mod Refusals
+pub mod OneAttempt

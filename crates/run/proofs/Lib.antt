@@ -3,3 +3,5 @@ pub mod Stubs
 pub mod Ends
 pub mod Refusals
 pub mod OneAttempt
+pub mod Attempts
+pub mod Beginning

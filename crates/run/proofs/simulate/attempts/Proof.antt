@@ -1,85 +1,68 @@
+-- `run::simulate::attempts` meets its contract. The invariant: the attempts that are left end as those from the start.
+use mathlib.Core.Path.{_≡_, refl, sym, ap, _∙_}
+use Prim.Native.Nat.{ℕ, _-_}
+use borrow.Author.Count.{falls}
+use native.Mathlib.Omega.{arith}
 use borrow.Author.Needs.{needs}
+use Rattle.run.proofs.Attempts.{GoesOn, starts, live-lent, live-fits, state-long, frames-long, ended-is, full-is, made-fits, can-attempt, goes-on, ends-ended, ends-full, ends-spent, work-left}
 use Rattle.run.proofs.simulate.attempts.Statement.{statement}
 use Rattle.run.proofs.simulate.attempts.Tie as tie
-use Rattle.run.proofs.simulate.attempts.Reads as reads
-use Rattle.run.proofs.simulate.attempts.Lts as lts
-use Rattle.run.proofs.model.clock_at.Reads as clock-at-reads
-use Rattle.run.proofs.simulate.attempt_on.Reads as attempt-on-reads
-use Rattle.run.proofs.simulate.has_ended.Reads as has-ended-reads
-use Rattle.run.proofs.simulate.is_full.Reads as is-full-reads
-use Rattle.run.proofs.simulate.outcome_of.Reads as outcome-of-reads
 
 abbrev Inv-loop : tie.InvT-loop
-Inv-loop state₀ work₀ frames₀ budget live₀ made₀ state work frames live made = ?
+Inv-loop state₀ work₀ frames₀ budget live₀ made₀ state work frames live made =
+    GoesOn (live₀ .run) budget state₀ work₀ frames₀ live made state work frames
 
 abbrev μ-loop : tie.MeasureT-loop
-μ-loop state₀ work₀ frames₀ budget live₀ made₀ state work frames live made = ?
-
-loop-holds : tie.Need-loop-holds Inv-loop μ-loop
-loop-holds c = ?
-
-has-ended-requires : tie.Need-has-ended-requires Inv-loop μ-loop
-has-ended-requires c κs = ?
-
-outcome-of-requires : tie.Need-outcome-of-requires Inv-loop μ-loop
-outcome-of-requires c κs = ?
-
-same-length : tie.Need-same-length Inv-loop μ-loop
-same-length c = ?
-
-same-length-2 : tie.Need-same-length-2 Inv-loop μ-loop
-same-length-2 c = ?
-
-same-length-3 : tie.Need-same-length-3 Inv-loop μ-loop
-same-length-3 c = ?
+μ-loop state₀ work₀ frames₀ budget live₀ made₀ state work frames live made = budget - made
 
 returns : tie.Need-returns Inv-loop μ-loop
-returns c = ?
-
-clock-at-requires : tie.Need-clock-at-requires Inv-loop μ-loop
-clock-at-requires c κs = ?
+returns c =
+    let p = c .before .before .before .before .before .before .before .before .before .before .before .before .pre in
+    let i = c .before .before .before .before .before .before .before .before .loop .inv in
+    (ends-ended _ _ _ _ _ p i (sym (c .before .before .if1 .taken) ∙ c .before .before .before .has-ended .ensures) _ (c .outcome-of .ensures), work-left _ _ _ _ _ p i)
 
 is-full-requires : tie.Need-is-full-requires Inv-loop μ-loop
-is-full-requires c κs = ?
-
-same-length-4 : tie.Need-same-length-4 Inv-loop μ-loop
-same-length-4 c = ?
-
-same-length-5 : tie.Need-same-length-5 Inv-loop μ-loop
-same-length-5 c = ?
-
-same-length-6 : tie.Need-same-length-6 Inv-loop μ-loop
-same-length-6 c = ?
+is-full-requires c κs =
+    let p = c .before .before .before .before .before .before .before .before .before .before .before .before .pre in
+    let h = c .before .before .before .before .before .before .before .before .loop .inv .holds in
+    (live-lent _ _ _ _ _ p h .sound, live-fits _ _ _ _ _ p h)
 
 returns-2 : tie.Need-returns-2 Inv-loop μ-loop
-returns-2 c = ?
+returns-2 c =
+    let p = c .before .before .before .before .before .before .before .before .before .before .before .before .before .before .pre in
+    let i = c .before .before .before .before .before .before .before .before .before .before .loop .inv in (
+      ends-full _ _ _ _ _ p i (c .before .before .before .before .before .before .before .before .before .loop-test .taken) (sym (c .before .before .before .before .if1 .left) ∙ c .before .before .before .before .before .has-ended .ensures) (c .before .before .clock-at .result)
+          (c .before .before .clock-at .ensures) (sym (c .if2 .taken) ∙ c .before .is-full .ensures),
+      work-left _ _ _ _ _ p i,
+    )
 
 attempt-on-requires : tie.Need-attempt-on-requires Inv-loop μ-loop
-attempt-on-requires c κs = ?
+attempt-on-requires c κs =
+    let p = c .before .before .before .before .before .before .before .before .before .before .before .before .before .before .before .before .before .pre in
+    let i = c .before .before .before .before .before .before .before .before .before .before .before .before .before .loop .inv in
+    can-attempt _ _ _ _ _ p i (c .before .before .before .before .before .before .before .before .before .before .before .before .loop-test .taken)
+    (sym (ended-is _ _ _ _ _ p (i .holds)) ∙ sym (c .before .before .before .before .before .before .before .before .has-ended .ensures) ∙ c .before .before .before .before .before .before .before .if1 .left)
+    (c .before .before .before .before .before .clock-at .result) (c .before .before .before .before .before .clock-at .ensures) (sym (c .before .before .before .before .is-full .ensures) ∙ c .before .before .before .if2 .left)
 
 add-made : tie.Need-add-made Inv-loop μ-loop
-add-made c = ?
-
-loop-less : tie.Need-loop-less Inv-loop μ-loop
-loop-less c = ?
+add-made c =
+    record { fits = made-fits (c .before .before .before .before .before .before .before .before .before .before .before .before .before .before .before .before .before .before .before .before .loop .made) (c .before .before .before .before .before .before .before .before .before .before .before .before .before .before .before .before .before .before .before .before .before .before .before .before .args .budget) (c .before .before .before .before .before .before .before .before .before .before .before .before .before .before .before .before .before .before .before .loop-test .taken) (c .before .before .before .before .before .before .before .before .before .before .before .before .before .before .before .before .before .before .before .before .before .before .before .before .fits .budget .fits) }
 
 loop-again : tie.Need-loop-again Inv-loop μ-loop
-loop-again c = ?
-
-outcome-of-requires-2 : tie.Need-outcome-of-requires-2 Inv-loop μ-loop
-outcome-of-requires-2 c κs = ?
-
-same-length-7 : tie.Need-same-length-7 Inv-loop μ-loop
-same-length-7 c = ?
-
-same-length-8 : tie.Need-same-length-8 Inv-loop μ-loop
-same-length-8 c = ?
-
-same-length-9 : tie.Need-same-length-9 Inv-loop μ-loop
-same-length-9 c = ?
+loop-again c =
+    let p = c .before .before .before .before .before .before .before .before .before .before .before .before .before .before .before .before .before .before .before .before .before .before .before .before .pre in
+    let i = c .before .before .before .before .before .before .before .before .before .before .before .before .before .before .before .before .before .before .before .before .loop .inv in
+    let made = c .before .before .before .before .before .before .attempt-on in
+    let going = sym (ended-is _ _ _ _ _ p (i .holds)) ∙ sym (c .before .before .before .before .before .before .before .before .before .before .before .before .before .before .before .has-ended .ensures) ∙ c .before .before .before .before .before .before .before .before .before .before .before .before .before .before .if1 .left in
+    goes-on _ _ _ _ _ p i (c .before .before .before .before .before .before .before .before .before .before .before .before .before .before .before .before .before .before .before .loop-test .taken) going
+    (sym (full-is _ _ _ _ _ p (i .holds) (c .before .before .before .before .before .before .before .before .before .before .before .before .clock-at .result) (c .before .before .before .before .before .before .before .before .before .before .before .before .clock-at .ensures) going) ∙ sym (c .before .before .before .before .before .before .before .before .before .before .before .is-full .ensures) ∙ c .before .before .before .before .before .before .before .before .before .before .if2 .left)
+    (made .ensures) (made .kept .1 .1 .1 .0)
 
 returns-3 : tie.Need-returns-3 Inv-loop μ-loop
-returns-3 c = ?
+returns-3 c =
+    let p = c .before .before .before .before .before .before .before .before .pre in
+    let i = c .before .before .before .before .loop .inv in
+    (ends-spent _ _ _ _ _ p i (c .before .before .before .loop-test .left) _ (c .outcome-of2 .ensures), work-left _ _ _ _ _ p i)
 
 pub attempts-spec : {M : Type 1} → statement M
 attempts-spec =
@@ -87,25 +70,25 @@ attempts-spec =
     (tie.spec
     Inv-loop
     μ-loop
-    loop-holds
-    has-ended-requires
-    outcome-of-requires
-    same-length
-    same-length-2
-    same-length-3
+    (λ c. starts _ _ _ _ _ (c .before .before .before .pre))
+    (λ c κs. live-lent _ _ _ _ _ (c .before .before .before .before .before .before .before .before .pre) (c .before .before .before .before .loop .inv .holds) .state-fits)
+    (λ c κs. live-lent _ _ _ _ _ (c .before .before .before .before .before .before .before .before .before .before .before .pre) (c .before .before .before .before .before .before .before .loop .inv .holds) .state-fits)
+    (λ c. state-long _ _ _ _ _ (c .before .before .before .before .before .before .before .before .before .before .before .before .pre) (c .before .before .before .before .before .before .before .before .loop .inv .holds))
+    (λ c. c .before .before .before .before .before .before .before .before .loop .inv .work-long)
+    (λ c. frames-long _ _ _ _ _ (c .before .before .before .before .before .before .before .before .before .before .before .before .pre) (c .before .before .before .before .before .before .before .before .loop .inv .holds))
     returns
-    clock-at-requires
+    (λ c κs. let l = live-lent _ _ _ _ _ (c .before .before .before .before .before .before .before .before .before .before .before .pre) (c .before .before .before .before .before .before .before .loop .inv .holds) in (l .sound, l .state-fits))
     is-full-requires
-    same-length-4
-    same-length-5
-    same-length-6
+    (λ c. state-long _ _ _ _ _ (c .before .before .before .before .before .before .before .before .before .before .before .before .before .before .pre) (c .before .before .before .before .before .before .before .before .before .before .loop .inv .holds))
+    (λ c. c .before .before .before .before .before .before .before .before .before .before .loop .inv .work-long)
+    (λ c. frames-long _ _ _ _ _ (c .before .before .before .before .before .before .before .before .before .before .before .before .before .before .pre) (c .before .before .before .before .before .before .before .before .before .before .loop .inv .holds))
     returns-2
     attempt-on-requires
     add-made
-    loop-less
+    (λ c. falls _ _ (c .before .before .before .before .before .before .before .before .before .before .before .before .before .before .before .before .before .before .before .loop-test .taken))
     loop-again
-    outcome-of-requires-2
-    same-length-7
-    same-length-8
-    same-length-9
+    (λ c κs. live-lent _ _ _ _ _ (c .before .before .before .before .before .before .before .pre) (c .before .before .before .loop .inv .holds) .state-fits)
+    (λ c. state-long _ _ _ _ _ (c .before .before .before .before .before .before .before .before .pre) (c .before .before .before .before .loop .inv .holds))
+    (λ c. c .before .before .before .before .loop .inv .work-long)
+    (λ c. frames-long _ _ _ _ _ (c .before .before .before .before .before .before .before .before .pre) (c .before .before .before .before .loop .inv .holds))
     returns-3)

@@ -1,9 +1,9 @@
 -- The states that a run makes have n numbers in each vector.
-use mathlib.Core.Path.{_≡_, _∙_}
+use mathlib.Core.Path.{_≡_, refl, _∙_}
 use mathlib.Core.List.{List}
 use Prim.Native.Nat.{ℕ}
 use lib.ListN.{length, length-map}
-use lib.Ieee.{Float, binary64, add, mul, div}
+use lib.Ieee.{Float, binary64, add, mul, div, ofBits, ofInt}
 use Rattle.vectors.specs.Constants.{whole}
 use Rattle.vectors.specs.Grid.{pointsOf}
 use Rattle.vectors.specs.MemoryLaws.{length-tab}
@@ -66,3 +66,7 @@ module _ (level : ℕ) where
   pub sized-initial : (amplitude : Float) → Sized (pointsOf level) (initialStateOf level amplitude)
   unfolding initialStateOf waveProfileOf constraintsOf massOf
   sized-initial amplitude = sized-made _ _ _ _ (length-tab (pointsOf level) _) (length-tab (pointsOf level) _) (length-tab (pointsOf level) _)
+
+  pub initial-time : (amplitude : Float) → initialStateOf level amplitude .time ≡ ofBits binary64 0x0
+  unfolding initialStateOf stateOf ofBits ofInt
+  initial-time amplitude = refl

@@ -9,3 +9,11 @@ pub struct Settings {
     pub dx_level: u32,
     pub skip: bool,
 }
+
+// What begin answers, and what each advance takes and returns.
+pub struct Record {
+    pub settings: Settings,
+    pub time: f64,
+    pub steps: u32,
+    pub broken: bool,
+}

@@ -1,0 +1,6 @@
+pub mod Leaves
+pub mod Ends
+pub mod Refusals
+pub mod OneAttempt
+pub mod Attempts
+pub mod Beginning

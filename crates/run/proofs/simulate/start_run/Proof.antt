@@ -1,0 +1,92 @@
+-- `run::simulate::start_run` meets its contract.
+use mathlib.Core.Path.{_≡_, refl, sym, ap, _∙_}
+use Prim.Native.Nat.{_≤_}
+use native.Mathlib.Nat.{le-trans, le-of-eq, zero-add}
+use lib.ListN.{length}
+use borrow.Author.Needs.{needs}
+use Rattle.run.specs.Model.{frameCount}
+use Rattle.run.specs.Answers.{Lent}
+use Rattle.run.proofs.Refusals.{LentAll, lent-all}
+use Rattle.run.proofs.Beginning.{begin-nan, begin-skipped, begin-framed}
+use Rattle.run.proofs.simulate.start_run.Statement.{statement}
+use Rattle.run.proofs.simulate.start_run.Tie as tie
+
+-- what the memories are known to hold
+lent-at : (c : tie.Start) → LentAll (c .args .s) (length (c .args .state .now)) (length (c .args .work .now)) (length (c .args .frames .now))
+lent-at c = lent-all (c .args .s) (length (c .args .state .now)) (length (c .args .work .now)) (length (c .args .frames .now)) (c .pre)
+
+has-nan-requires : tie.Need-has-nan-requires
+has-nan-requires c κs = le-trans (lent-at (c .before .before .before .before .before .before .before .before) .lent .work-fits) (le-of-eq (sym (c .before .before .before .start-state .kept .1 .0)))
+
+returns : tie.Need-returns
+returns c =
+    let start = c .before .before .before .before .before .before .before .before .before .before in
+    let a = start .args in
+    let made = c .before .before .before .before .before .start-state in (
+      begin-nan (a .s) (a .state .now) (a .work .now) (a .frames .now) (start .pre) (made .result) (made .last .1 .0) (made .ensures .0)
+          (le-trans (lent-at start .lent .work-fits) (le-of-eq (sym (made .kept .1 .0)))) (sym (c .if1 .taken) ∙ c .before .has-nan .ensures),
+      made .ensures .1,
+    )
+
+store-next-requires : tie.Need-store-next-requires
+store-next-requires c κs =
+    let l = lent-at (c .before .before .before .before .before .before .before .before .before .before .before .before) .lent in
+    record {
+      sound = l .sound;
+      state-fits = l .state-fits;
+      work-fits = le-trans (l .work-fits) (le-of-eq (sym (c .before .before .before .before .before .before .before .start-state .kept .1 .0)));
+    }
+
+returns-2 : tie.Need-returns-2
+returns-2 c =
+    let start = c .before .before .before .before .before .before .before .before .before .before .before .before .before .before .before .before in
+    let a = start .args in
+    let made = c .before .before .before .before .before .before .before .before .before .before .before .start-state in (
+      begin-skipped (a .s) (a .state .now) (a .work .now) (a .frames .now) (start .pre) (made .result) (made .last .1 .0) (made .ensures .0)
+          (le-trans (lent-at start .lent .work-fits) (le-of-eq (sym (made .kept .1 .0)))) _ (c .before .before .before .store-next .ensures)
+          (sym (c .before .before .before .before .before .before .if1 .left) ∙ c .before .before .before .before .before .before .before .has-nan .ensures) (c .if2 .taken),
+      made .ensures .1,
+    )
+
+write-frame-requires : tie.Need-write-frame-requires
+write-frame-requires c κs =
+    let start = c .before .before .before .before .before .before .before .before .before .before .before .before .before .before .before .before .before .before .before in
+    let a = start .args in
+    let l = lent-at start in (
+      record {
+        sound = l .lent .sound;
+        state-fits = le-trans (l .lent .state-fits) (le-of-eq (sym (c .before .before .before .before .before .before .store-next .kept .1 .1 .0)));
+        work-fits = le-trans (l .lent .work-fits) (le-of-eq (sym (c .before .before .before .before .before .before .before .before .before .before .before .before .before .before .start-state .kept .1 .0)));
+      },
+      le-trans (le-of-eq (zero-add (frameCount (a .s)))) (l .framed (c .before .before .before .if2 .left)),
+    )
+
+returns-3 : tie.Need-returns-3
+returns-3 c =
+    let start = c .before .before .before .before .before .before .before .before .before .before .before .before .before .before .before .before .before .before .before .before .before .before .before .before in
+    let a = start .args in
+    let made = c .before .before .before .before .before .before .before .before .before .before .before .before .before .before .before .before .before .before .before .start-state in
+    let frame = c .before .before .before .before .write-frame in (
+      begin-framed (a .s) (a .state .now) (a .work .now) (a .frames .now) (start .pre) (made .result) (made .last .1 .0) (made .ensures .0)
+          (le-trans (lent-at start .lent .work-fits) (le-of-eq (sym (made .kept .1 .0)))) _ (c .before .before .before .before .before .before .before .before .before .before .before .store-next .ensures)
+          (sym (c .before .before .before .before .before .before .before .before .before .before .before .before .before .before .if1 .left) ∙ c .before .before .before .before .before .before .before .before .before .before .before .before .before .before .before .has-nan .ensures) (c .before .before .before .before .before .before .before .before .if2 .left) _ (frame .ensures .0),
+      frame .ensures .1 ∙ made .ensures .1,
+    )
+
+pub start-run-spec : {M : Type 1} → statement M
+start-run-spec =
+    tie.close
+    (tie.spec
+    (λ c κs. let l = lent-at (c .before .before .before .before) .lent in (l .sound, l .work-fits))
+    has-nan-requires
+    (λ c. search needs)
+    returns
+    store-next-requires
+    (λ c. search needs)
+    (λ c. search needs)
+    returns-2
+    write-frame-requires
+    (λ c. search needs)
+    (λ c. search needs)
+    (λ c. search needs)
+    returns-3)

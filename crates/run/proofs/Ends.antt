@@ -1,11 +1,10 @@
 -- Whether a run has ended, and its outcome, from the tests that the code makes in their order.
-use Prim.Native.Nat.{ℕ, _≤_, _<_}
+use Prim.Native.Nat.{ℕ}
 use mathlib.Core.Bool.{Bool, true, false, cond, _||_, _&&_, or-true, or-false}
 use mathlib.Core.Option.{Option, none, some}
 use mathlib.Core.Path.{_≡_, refl, sym, _∙_, ap}
 use lib.Dec.{leb}
 use lib.Ieee.{Float}
-use borrow.Author.Tests.{le-leb, lt-leb}
 use Rattle.physics.specs.State.{State}
 use Rattle.run.specs.declared.settings.Settings.{Settings}
 use Rattle.run.specs.Model.{massAt, isLate}
@@ -29,19 +28,11 @@ module _ (s : Settings) (a : State) (steps : ℕ) (broken : Bool) where
     unfolding outcome
     outcome-broken g = rw (← h, g)
 
-    module _ (g : broken ≡ false) where
-      pub ended-first : steps < 1 → false ≡ ended s a steps broken
+    module _ (g : broken ≡ false) (late : Bool) (q : late ≡ (leb 1 steps && isLate s a)) where
+      pub ended-late : late ≡ ended s a steps broken
       unfolding ended
-      ended-first e = rw (← h, g, lt-leb 1 steps e)
+      ended-late = rw (← h, g, ← q) (sym (or-false late))
 
-      pub outcome-first : steps < 1 → spent ≡ outcome s a steps broken
+      pub outcome-late : cond late timeout spent ≡ outcome s a steps broken
       unfolding outcome
-      outcome-first e = rw (← h, g, lt-leb 1 steps e)
-
-      pub ended-late : (late : Bool) → 1 ≤ steps → late ≡ isLate s a → late ≡ ended s a steps broken
-      unfolding ended
-      ended-late late e q = rw (← h, g, le-leb 1 steps e, ← q) (sym (or-false late))
-
-      pub outcome-late : (late : Bool) → 1 ≤ steps → late ≡ isLate s a → cond late timeout spent ≡ outcome s a steps broken
-      unfolding outcome
-      outcome-late late e q = rw (← h, g, le-leb 1 steps e, ← q)
+      outcome-late = rw (← h, g, ← q)

@@ -124,17 +124,11 @@ module _ (run : Record) (memory : List Float) (work budget : ℕ) where
         ap₂ (λ (o : Option ℕ) (x : Bool). advanceBy o x over (ltb 2147483647 (run .steps + budget))) sound h ∙ advance-is
 
     module _ (enough : false ≡ tooShort s (length memory) work) where
-      past-short : (e m : Bool) → e ≡ over → m ≡ ltb 2147483647 (run .steps + budget) → advanceBy none false e m ≡ advanceRefusal run memory work budget
-      past-short e m he hm = (λ i. advanceBy (sound i) (enough i) (he i) (hm i)) ∙ advance-is
-
-      pub advance-ended : true ≡ over → none ≡ advanceRefusal run memory work budget
-      advance-ended h = past-short true (ltb 2147483647 (run .steps + budget)) h refl
-
-      pub advance-many : false ≡ over → 2147483647 < run .steps + budget → some 14 ≡ advanceRefusal run memory work budget
-      advance-many h k = past-short false true h (sym (lt-ltb 2147483647 (run .steps + budget) k))
-
-      pub advance-few : false ≡ over → run .steps + budget ≤ 2147483647 → none ≡ advanceRefusal run memory work budget
-      advance-few h k = past-short false false h (sym (le-ltb 2147483647 (run .steps + budget) k))
+      pub advance-many :
+          (many : Bool) → many ≡ tooMany over (run .steps) budget → cond many (some 14) none ≡ advanceRefusal run memory work budget
+      unfolding advanceRefusal
+      advance-many many h =
+          (λ i. option (sound i) some (cond (enough i) (some 11) (cond (h i) (some 14) none)))
 
   -- what an advance that is not refused was given
   pub record Taken : Type 0 where

@@ -3,7 +3,8 @@ ghost use Prim.Native.Nat.{_≤_, _<_, _+_, _-_, _*_, _^_};
 ghost use mathlib.Core.Bool.{true, false, cond, _&&_};
 ghost use mathlib.Core.Option.{none};
 ghost use mathlib.Core.Path.{_≡_};
-ghost use lib.Dec.{ltb};
+ghost use lib.Dec.{leb, ltb};
+ghost use lib.Ieee.{lt};
 ghost use lib.ListN.{length, drop};
 ghost use Rattle.run.specs.Model.{faultAt, cellCount, workCount, frameCount, stateIn};
 ghost use Rattle.run.specs.PlainRun.{hasEnded, outcomeOf};
@@ -66,6 +67,16 @@ fn too_short(s: Settings, state: usize, work: usize) -> bool
     work < room(s)
 }
 
+// Whether the run has made a step and is past its max time.
+fn timed_out(run: Record) -> bool
+    ensures { λ r. ⌜ r ≡ (leb 1 (run .steps) && lt (run .settings .tmax) (run .time)) ⌝ }
+{
+    if run.steps < 1 {
+        return false;
+    }
+    late(run.settings, run.time)
+}
+
 // Whether the run has ended.
 fn has_ended(run: Record, state: &[f64]) -> bool
     requires { ⌜ cellCount (run .settings) ≤ length (now state) ⌝ }
@@ -78,10 +89,7 @@ fn has_ended(run: Record, state: &[f64]) -> bool
     if run.broken {
         return true;
     }
-    if run.steps < 1 {
-        return false;
-    }
-    late(s, run.time)
+    timed_out(run)
 }
 
 // The run's outcome, with how many frames were written.
@@ -96,10 +104,7 @@ fn outcome_of(run: Record, state: &[f64], count: usize) -> Answer
     if run.broken {
         return Answer::Broken(count);
     }
-    if run.steps < 1 {
-        return Answer::Spent(count);
-    }
-    if late(s, run.time) {
+    if timed_out(run) {
         return Answer::Timeout(count);
     }
     Answer::Spent(count)
@@ -213,10 +218,9 @@ fn advance_verdict(run: Record, state: &[f64], work: usize, budget: u32) -> Verd
     if too_short(s, state.len(), work) {
         return Verdict::Refused(11);
     }
-    if has_ended(run, state) {
-        return Verdict::Sound;
-    }
-    if run.steps as u64 + budget as u64 > 2147483647 {
+    let ended = has_ended(run, state);
+    let many = run.steps as u64 + budget as u64 > 2147483647;
+    if and_also(!ended, many) {
         return Verdict::Refused(14);
     }
     Verdict::Sound

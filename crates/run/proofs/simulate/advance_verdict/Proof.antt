@@ -1,9 +1,12 @@
 -- `run::simulate::advance_verdict` meets its contract.
 use mathlib.Core.Path.{_≡_, refl, sym, ap, _∙_}
+use Prim.Native.Nat.{_+_}
+use mathlib.Core.Bool.{Bool, true, false, not, _&&_}
+use lib.Dec.{ltb}
 use lib.ListN.{length}
 use borrow.Author.Needs.{needs}
 use Rattle.run.specs.Answers.{refusalOf}
-use Rattle.run.proofs.Refusals.{long, advance-fault, advance-short, advance-ended, advance-many, advance-few}
+use Rattle.run.proofs.Refusals.{long, advance-fault, advance-short, advance-many}
 use Rattle.run.proofs.simulate.advance_verdict.Statement.{statement}
 use Rattle.run.proofs.simulate.advance_verdict.Tie as tie
 
@@ -25,21 +28,19 @@ has-ended-requires c κs =
 
 returns-3 : tie.Need-returns-3
 returns-3 c =
-    let a = c .before .before .before .before .before .before .before .before .before .args in
-    advance-ended (a .run) (a .state .now) (a .work) (a .budget) (ap refusalOf (sym (c .before .before .before .before .enum-told .given .1)) ∙ c .before .before .before .before .before .before .fault-in .ensures)
-    (sym (c .before .before .if1 .left) ∙ c .before .before .before .too-short .ensures) (sym (c .if2 .taken) ∙ c .before .has-ended .ensures)
+    let a = c .before .before .before .before .before .before .before .before .before .before .before .args in
+    let r = a .run in
+    advance-many r (a .state .now) (a .work) (a .budget) (ap refusalOf (sym (c .before .before .before .before .before .before .enum-told .given .1)) ∙ c .before .before .before .before .before .before .before .before .fault-in .ensures)
+    (sym (c .before .before .before .before .if1 .left) ∙ c .before .before .before .before .before .too-short .ensures) true
+    (sym (c .if2 .taken) ∙ c .before .and-also .ensures ∙ ap (λ (b : Bool). not b && ltb 2147483647 (r .steps + a .budget)) (c .before .before .before .has-ended .ensures))
 
 returns-4 : tie.Need-returns-4
 returns-4 c =
     let a = c .before .before .before .before .before .before .before .before .before .before .before .args in
-    advance-many (a .run) (a .state .now) (a .work) (a .budget) (ap refusalOf (sym (c .before .before .before .before .before .before .enum-told .given .1)) ∙ c .before .before .before .before .before .before .before .before .fault-in .ensures)
-    (sym (c .before .before .before .before .if1 .left) ∙ c .before .before .before .before .before .too-short .ensures) (sym (c .before .before .if2 .left) ∙ c .before .before .before .has-ended .ensures) (c .if3 .taken)
-
-returns-5 : tie.Need-returns-5
-returns-5 c =
-    let a = c .before .before .before .before .before .before .before .before .before .before .before .args in
-    advance-few (a .run) (a .state .now) (a .work) (a .budget) (ap refusalOf (sym (c .before .before .before .before .before .before .enum-told .given .1)) ∙ c .before .before .before .before .before .before .before .before .fault-in .ensures)
-    (sym (c .before .before .before .before .if1 .left) ∙ c .before .before .before .before .before .too-short .ensures) (sym (c .before .before .if2 .left) ∙ c .before .before .before .has-ended .ensures) (c .if3 .left)
+    let r = a .run in
+    advance-many r (a .state .now) (a .work) (a .budget) (ap refusalOf (sym (c .before .before .before .before .before .before .enum-told .given .1)) ∙ c .before .before .before .before .before .before .before .before .fault-in .ensures)
+    (sym (c .before .before .before .before .if1 .left) ∙ c .before .before .before .before .before .too-short .ensures) false
+    (sym (c .if2 .left) ∙ c .before .and-also .ensures ∙ ap (λ (b : Bool). not b && ltb 2147483647 (r .steps + a .budget)) (c .before .before .before .has-ended .ensures))
 
 pub advance-verdict-spec : {M : Type 1} → statement M
 advance-verdict-spec =
@@ -52,8 +53,8 @@ advance-verdict-spec =
     (λ c κs. search needs)
     returns-2
     has-ended-requires
+    (λ c. search needs)
+    (λ c. search needs)
+    (λ c κs. search needs)
     returns-3
-    (λ c. search needs)
-    (λ c. search needs)
-    returns-4
-    returns-5)
+    returns-4)

@@ -39,8 +39,8 @@ const C: f64 = 1.9082149292705877e-10;
 // 3 × 2^51. A sum near it has no room for a fraction, so adding it rounds to the nearest whole number, ties to even.
 const SHIFT: f64 = 6755399441055744.0;
 
-// 3 × 2^51 - 2^18. The sum less this is N + 2^18, which is above 0.
-const SHIFT_BELOW: u64 = 6755399440793600;
+// SHIFT's bits, less 2^18. The sum is a whole number from 2^52 to 2^53, so its bits go up with it one by one: less this they are N + 2^18, which is above 0.
+const SHIFT_BELOW: u64 = 0x4337FFFFFFFC0000;
 
 // exp by the table lent.
 fn exp_by(table: &[u64; 256], x: f64) -> f64
@@ -60,16 +60,16 @@ fn exp_by(table: &[u64; 256], x: f64) -> f64
     let n = shifted - SHIFT;
     let r = (x - n * (B / 256.0)) - n * (C / 256.0);
     let p = 1.0 + r * (1.0 + r * (1.0 / 2.0 + r * (1.0 / 6.0 + r * (1.0 / 24.0))));
-    let i = (shifted as u64) - SHIFT_BELOW;
+    let i = f64::to_bits(shifted) - SHIFT_BELOW;
     (fraction(table, (i % 256) as usize) * p) * power_of_two(i / 256)
 }
 
-// T_j = m / 2^52, for j below 256.
+// T_j = m / 2^52, for j below 256. m is at least 2^52 and below 2^53, so it is T_j's bits but for the exponent's field, which is 1022 more.
 fn fraction(table: &[u64; 256], j: usize) -> f64
     requires { ⌜ (now table ≡ mantissas) × (j < 256) ⌝ }
     ensures { λ r. ⌜ r ≡ fractionOf j ⌝ }
 {
-    (table[j] as f64) / 4503599627370496.0
+    f64::from_bits(table[j] + 0x3FE0000000000000)
 }
 
 // 2^(k - 1024): the exponent's field of the bits is k - 1, the others 0.

@@ -3,3 +3,5 @@ mod Binade
 mod Shift
 mod Range
 mod Cases
+mod Limits
+mod Mapped

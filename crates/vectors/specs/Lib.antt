@@ -3,6 +3,7 @@ pub mod Constants
 pub mod Dissipation
 pub mod DissipationLaws
 pub mod Exp
+pub mod ExpInside
 pub mod ExpLaws
 pub mod ExpTable
 pub mod Fault

@@ -1,11 +1,14 @@
 // exp of document 01 ("exp, ours"): specs/Exp.antt writes it down.
 ghost use mathlib.Core.Path.{_≡_};
-ghost use mathlib.Core.Bool.{false};
+ghost use mathlib.Core.Bool.{true, false};
 ghost use mathlib.Core.List.{map};
 ghost use Prim.Native.Nat.{_<_, _≤_};
+ghost use lib.ListN.{length};
 ghost use lib.Ieee.{fin, minus};
 ghost use Rattle.vectors.specs.Exp.{expOf, fractionOf};
+ghost use Rattle.vectors.specs.ExpInside.{Inside, InsideTo};
 ghost use Rattle.vectors.specs.ExpTable.{mantissas};
+use crate::answer::and_also;
 
 pub fn exp(x: f64) -> f64
     ensures { λ r. ⌜ r ≡ expOf x ⌝ }
@@ -15,15 +18,63 @@ pub fn exp(x: f64) -> f64
 }
 
 // exp of each number, in place. The table is made once: a constant is written out anew at each use.
+// Where all are between the limits no number is tested on its way, and the compiler takes two at a time.
 pub fn exp_all(values: &mut [f64])
     ensures { λ _. ⌜ now (values .exit) ≡ map expOf (now (values .entry)) ⌝ }
 {
     let table = MANTISSAS;
+    if all_inside(values) {
+        each_inside(&table, values);
+    } else {
+        each(&table, values);
+    }
+}
+
+// Whether all are between the limits.
+fn all_inside(values: &[f64]) -> bool
+    ensures { λ r. ⌜ (r ≡ true → InsideTo (length (now (values .entry))) (now (values .entry))) ⌝ }
+{
+    let len = values.len();
+    let mut all = true;
+    let mut k = 0usize;
+    while k < len {
+        all = and_also(all, inside(values[k]));
+        k += 1usize;
+    }
+    all
+}
+
+// Whether x is, with no branch. A NaN is not.
+fn inside(x: f64) -> bool
+    ensures { λ r. ⌜ (r ≡ true → Inside x) ⌝ }
+{
+    and_also(x < 709.0, x > -708.0)
+}
+
+// exp of each number, all of them between the limits.
+fn each_inside(table: &[u64; 256], values: &mut [f64])
+    requires { ⌜ (now table ≡ mantissas) × InsideTo (length (now values)) (now values) ⌝ }
+    ensures { λ _. ⌜ now (values .exit) ≡ map expOf (now (values .entry)) ⌝ }
+{
+    let len = values.len();
+    let mut k = 0usize;
+    while k < len {
+        let x = values[k];
+        values[k] = exp_inside(table, x);
+        k += 1usize;
+    }
+}
+
+// exp of each number.
+fn each(table: &[u64; 256], values: &mut [f64])
+    requires { ⌜ now table ≡ mantissas ⌝ }
+    ensures { λ _. ⌜ now (values .exit) ≡ map expOf (now (values .entry)) ⌝ }
+{
     let len = values.len();
     let mut i = 0usize;
     while i < len {
         let x = values[i];
-        values[i] = exp_by(&table, x);
+        values[i] = exp_by(table, x);
         i += 1usize;
     }
 }
@@ -39,8 +90,8 @@ const C: f64 = 1.9082149292705877e-10;
 // 3 × 2^51. A sum near it has no room for a fraction, so adding it rounds to the nearest whole number, ties to even.
 const SHIFT: f64 = 6755399441055744.0;
 
-// 3 × 2^51 - 2^18. The sum less this is N + 2^18, which is above 0.
-const SHIFT_BELOW: u64 = 6755399440793600;
+// SHIFT's bits, less 2^18. The sum is a whole number from 2^52 to 2^53, so its bits go up with it one by one: less this they are N + 2^18, which is above 0.
+const SHIFT_BELOW: u64 = 0x4337FFFFFFFC0000;
 
 // exp by the table lent.
 fn exp_by(table: &[u64; 256], x: f64) -> f64
@@ -56,20 +107,28 @@ fn exp_by(table: &[u64; 256], x: f64) -> f64
     if x <= -708.0 {
         return 0.0;
     }
+    exp_inside(table, x)
+}
+
+// The same between the limits, which asks for no test.
+fn exp_inside(table: &[u64; 256], x: f64) -> f64
+    requires { ⌜ (now table ≡ mantissas) × Inside x ⌝ }
+    ensures { λ r. ⌜ r ≡ expOf x ⌝ }
+{
     let shifted = x * (256.0 * A) + SHIFT;
     let n = shifted - SHIFT;
     let r = (x - n * (B / 256.0)) - n * (C / 256.0);
     let p = 1.0 + r * (1.0 + r * (1.0 / 2.0 + r * (1.0 / 6.0 + r * (1.0 / 24.0))));
-    let i = (shifted as u64) - SHIFT_BELOW;
+    let i = f64::to_bits(shifted) - SHIFT_BELOW;
     (fraction(table, (i % 256) as usize) * p) * power_of_two(i / 256)
 }
 
-// T_j = m / 2^52, for j below 256.
+// T_j = m / 2^52, for j below 256. m is at least 2^52 and below 2^53, so it is T_j's bits but for the exponent's field, which is 1022 more.
 fn fraction(table: &[u64; 256], j: usize) -> f64
     requires { ⌜ (now table ≡ mantissas) × (j < 256) ⌝ }
     ensures { λ r. ⌜ r ≡ fractionOf j ⌝ }
 {
-    (table[j] as f64) / 4503599627370496.0
+    f64::from_bits(table[j] + 0x3FE0000000000000)
 }
 
 // 2^(k - 1024): the exponent's field of the bits is k - 1, the others 0.

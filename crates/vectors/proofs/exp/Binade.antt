@@ -11,7 +11,7 @@ use lib.Ieee.Fits.{round-is, core}
 use lib.Ieee.Nearest.{closest, closest-same}
 use Rattle.vectors.specs.ExpLaws.{Nearest, closest-is, nearest-unique}
 
--- the code's SHIFT and SHIFT_BELOW
+-- the code's SHIFT, and 2^18 less
 abbrev pub shiftBy : ℕ
 shiftBy = 3 * 2 ^ 51
 

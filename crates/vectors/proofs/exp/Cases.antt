@@ -1,15 +1,14 @@
 -- What `expOf` is where each of the code's tests holds, and, between the limits, what it is of the code's values.
 use mathlib.Core.Path.{_≡_, refl, sym, ap, _∙_, subst}
-use mathlib.Core.Bool.{Bool, true, false, cond, false≢true}
-use Prim.Native.Nat.{ℕ, _+_, _-_, _/_, _%_}
+use mathlib.Core.Bool.{Bool, true, false, not, cond, false≢true}
+use Prim.Native.Nat.{ℕ, _+_, _-_, _*_, _/_, _%_, _^_}
 use native.Mathlib.Omega.{arith}
 use lib.Dec.{T}
 use lib.IntN.{pos}
-use lib.Ieee.{Float, nan, inf, fin, binary64, le, ne, isNan, add, sub, mul, ofInt, ofBits, minus, inUnsigned, toUnsigned}
-use lib.Ieee.Back.{unsigned-back}
+use lib.Ieee.{Float, nan, inf, fin, binary64, le, ne, isNan, add, sub, mul, ofInt, ofBits, minus, toBits}
 use lib.Ieee.Compare.{differs-from-itself}
 use Rattle.vectors.specs.Exp.{expOf, scaledSeries, nearestWhole, multipleOf, fractionOf, series, reducedArgument, remainder256, quotient256}
-use Rattle.vectors.proofs.Floats.{whole-in}
+use Rattle.vectors.proofs.Floats.{whole-value, value-no-nan, whole-bits}
 use Rattle.vectors.proofs.exp.Binade.{shiftBelow}
 use Rattle.vectors.proofs.exp.Shift.{shift, Shifted}
 use Rattle.vectors.proofs.exp.Range.{scale}
@@ -50,21 +49,27 @@ module _ (x : Float) (n : ne x x ≡ false) (a : le (fin false 709 (pos 0)) x �
   pub exp-between : le x (fin true 177 (pos 2)) ≡ false → expOf x ≡ scaledSeries x (nearestWhole (mul binary64 x scale))
   exp-between b = exp-is x ∙ cc (not-nan x n, a, b)
 
--- ---- between the limits: the cast of the sum, and the result from its parts
+-- ---- between the limits: the bits of the sum, and the result from its parts
+-- the code's SHIFT_BELOW
+abbrev shiftBits : ℕ
+shiftBits = 0x4337FFFFFFFC0000
+
 module _ (y : Float) (S : Shifted y) where
-  back : T (inUnsigned binary64 64 (ofInt binary64 (pos (shiftBelow + S .i)))) × (toUnsigned 64 (ofInt binary64 (pos (shiftBelow + S .i))) ≡ shiftBelow + S .i)
-  back =
+  pub sum-no-nan : T (not (isNan (add binary64 y shift)))
+  sum-no-nan =
+      let n = shiftBelow + S .i in
       let b = S .below in
-      unsigned-back binary64 64 (shiftBelow + S .i) (whole-in (shiftBelow + S .i) (omega arith)) (omega arith)
+      subst (λ (z : Float). T (not (isNan z))) (sym (S .sum-is)) (value-no-nan (ofInt binary64 (pos n)) false n 1 (whole-value n (omega arith)))
 
-  pub cast-in : T (inUnsigned binary64 64 (add binary64 y shift))
-  cast-in = subst (λ (z : Float). T (inUnsigned binary64 64 z)) (sym (S .sum-is)) (back .0)
+  pub bits-is : toBits binary64 (add binary64 y shift) ≡ shiftBits + S .i
+  bits-is =
+      let n = shiftBelow + S .i in
+      let b = S .below in
+      let e : 1074 * 2 ^ 52 + n ≡ shiftBits + S .i = omega arith in
+      ap (toBits binary64) (S .sum-is) ∙ whole-bits n (omega arith) (omega arith) ∙ e
 
-  pub cast-is : toUnsigned 64 (add binary64 y shift) ≡ shiftBelow + S .i
-  cast-is = ap (toUnsigned 64) (S .sum-is) ∙ back .1
-
-  pub offset-is : toUnsigned 64 (add binary64 y shift) - shiftBelow ≡ S .i
-  offset-is = let e = cast-is in omega arith
+  pub offset-is : toBits binary64 (add binary64 y shift) - shiftBits ≡ S .i
+  offset-is = let e = bits-is in omega arith
 
   -- t and u are what `fraction` and `power_of_two` return
   pub result-is : (x t u : Float) (i : ℕ) → i ≡ S .i → t ≡ fractionOf (i % 256) → u ≡ fin false 1 (minus (i / 256) 1024)

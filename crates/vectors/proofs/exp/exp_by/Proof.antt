@@ -1,16 +1,10 @@
 -- `vectors::exp::exp_by` meets its contract.
-use mathlib.Core.Path.{sym, _∙_}
-use native.Mathlib.Omega.{arith}
 use borrow.Author.Needs.{needs}
-use lib.Ieee.{binary64, ofBits, ofInt, neg, div, mul}
-use Rattle.vectors.specs.Exp.{series, reducedArgument}
-use Rattle.vectors.proofs.exp.Shift.{Shifted}
-use Rattle.vectors.proofs.exp.Range.{scale, between}
-use Rattle.vectors.proofs.exp.Cases.{exp-nan, exp-over, exp-under, exp-between, cast-in, cast-is, offset-is, result-is}
+use lib.Ieee.{ofBits, neg, div}
+use Rattle.vectors.proofs.exp.Cases.{exp-nan, exp-over, exp-under}
 use Rattle.vectors.proofs.exp.exp_by.Statement.{statement}
 use Rattle.vectors.proofs.exp.exp_by.Tie as tie
 
--- ---- the three early returns
 returns : tie.Need-returns
 returns c = exp-nan (c .before .args .x) (c .if1 .taken)
 
@@ -22,43 +16,10 @@ returns-3 : tie.Need-returns-3
 unfolding ofBits neg
 returns-3 c = exp-under (c .before .before .before .args .x) (c .before .before .if1 .left) (c .before .if2 .left) (c .if3 .taken)
 
--- ---- past the three tests
-shifted : (c : tie.After-row-known) → Shifted (mul binary64 (c .before .before .before .before .args .x) scale)
+exp-inside-requires : tie.Need-exp-inside-requires
 unfolding ofBits neg
-shifted c = between (c .before .before .before .before .args .x) (c .before .before .before .if1 .left) (c .before .before .if2 .left) (c .before .if3 .left)
-
-float-to-int-i : tie.Need-float-to-int-i
-unfolding ofBits mul
-float-to-int-i c = cast-in _ (shifted c)
-
-sub-i : tie.Need-sub-i
-unfolding ofBits mul
-sub-i c = omega (arith, cast-is _ (shifted c))
-
-power-of-two-requires : tie.Need-power-of-two-requires
-unfolding ofBits mul
-power-of-two-requires c κs =
-    let S = shifted (c .before) in
-    omega (arith, offset-is _ S, S .enough, S .below)
-
-returns-4 : tie.Need-returns-4
-unfolding ofBits mul div ofInt series reducedArgument neg
-returns-4 c =
-    let at = c .before .before in
-    let S = shifted at in
-    let x = at .before .before .before .before .args .x in
-    result-is _ S x (c .before .fraction .result) (c .power-of-two .result) _ (offset-is _ S) (c .before .fraction .ensures) (c .power-of-two .ensures)
-    ∙ sym (exp-between x (at .before .before .before .if1 .left) (at .before .before .if2 .left) (at .before .if3 .left))
+exp-inside-requires c κs =
+    (c .before .before .before .pre, record { number = c .before .before .if1 .left; under = c .before .if2 .left; over = c .if3 .left })
 
 pub exp-by-spec : {M : Type 1} → statement M
-exp-by-spec =
-    tie.close
-    (tie.spec
-    returns
-    returns-2
-    returns-3
-    float-to-int-i
-    sub-i
-    (λ c κs. search needs)
-    power-of-two-requires
-    returns-4)
+exp-by-spec = tie.close (tie.spec returns returns-2 returns-3 exp-inside-requires (λ c. search needs))

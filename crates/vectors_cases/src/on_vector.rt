@@ -1,5 +1,5 @@
 // Every kind of vector at each level, and at level 5 an infinity at each point.
-use crate::arguments;
+use cases::arguments;
 use crate::lists;
 use crate::stencils;
 

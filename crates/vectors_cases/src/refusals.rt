@@ -1,8 +1,8 @@
 // What the calls answer where a level, a length or an index is refused, and that memory stays as it was.
-use crate::arguments;
-use crate::digest::digest;
+use cases::arguments;
+use cases::digest::digest;
+use cases::print;
 use crate::grid;
-use crate::print;
 use crate::stencils;
 use vectors::answer::Answer;
 

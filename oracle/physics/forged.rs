@@ -2,8 +2,7 @@
 //! one of them replaced by wilder numbers. A step also from times, and by steps, that no run has.
 use super::states::{base, config, line, state_of};
 use crate::arguments::{list, Range};
-use crate::digest::{bits_of, of_bits};
-use crate::domain::state::State;
+use crate::digest::of_bits;
 use crate::use_cases::integration::rk4_step;
 
 /// Time, and step over the base.
@@ -31,9 +30,8 @@ pub fn print() {
 
 fn step(case: &str, level: u32, time: f64, factor: f64, vectors: [Vec<f64>; 8]) {
     let config = config(level, 0.0);
-    let state: State = state_of(time, vectors);
-    let next = rk4_step(&config, &state, base(&config) * factor);
-    line(&format!("forged {case} energy {:016x}", bits_of(state.total_energy())), &next);
+    let next = rk4_step(&config, &state_of(time, vectors), base(&config) * factor);
+    line(&format!("forged {case}"), &next);
 }
 
 /// The first three vectors lie about 0, the others about 1.

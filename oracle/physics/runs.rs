@@ -28,7 +28,7 @@ fn run(level: u32, amplitude: f64, slowed: bool, last: u32) {
     let config = config(level, amplitude);
     let delta = if slowed { base(&config) * BH_SLOWDOWN_FACTOR } else { base(&config) };
     let name = if slowed { "slowed" } else { "base" };
-    let case = format!("level {level} amplitude {:016x} {name}", bits_of(amplitude));
+    let case = format!("run level {level} amplitude {:016x} {name}", bits_of(amplitude));
     let mut state = build_initial_state(&config);
     let mut steps = 0;
     line(&format!("{case} steps 0"), &state);

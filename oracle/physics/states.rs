@@ -39,14 +39,14 @@ pub fn has_nan(state: &State) -> bool {
     state.time.is_nan() || vectors(state).iter().any(|v| v.iter().any(|x| x.is_nan()))
 }
 
-/// `run`, or `broken` if the state has a NaN, then the case and the state.
+/// The case and the state.
 pub fn line(case: &str, state: &State) {
-    let word = if has_nan(state) { "broken" } else { "run" };
-    print!("{word} {case} time {:016x} vectors", bits_of(state.time));
+    print!("{case} time {:016x} vectors", bits_of(state.time));
     for v in vectors(state) {
         print!(" {}", digest(v.iter()));
     }
-    println!(" energy {:016x} mass {}", bits_of(state.total_energy()), mass(state.black_hole_mass()));
+    let nan = if has_nan(state) { "yes" } else { "no" };
+    println!(" energy {:016x} mass {} nan {nan}", bits_of(state.total_energy()), mass(state.black_hole_mass()));
 }
 
 pub fn mass(formed: Option<f64>) -> String {

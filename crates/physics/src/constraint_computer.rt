@@ -1,0 +1,207 @@
+// The constraints of constraint_computer.rs, in the slots of slots.rt.
+ghost use mathlib.Core.Path.{_≡_};
+ghost use Prim.Native.Nat.{_+_, _*_, _<_, _≤_};
+ghost use lib.ListN.{length};
+ghost use Rattle.vectors.specs.Memory.{put};
+ghost use lib.Ieee.{binary64, mul, div};
+ghost use Rattle.physics.specs.Constraints.{integrandAt, energyDensityAt, massAt, radialFactorAt};
+ghost use Rattle.physics.specs.Slots.{slots, Became};
+ghost use Rattle.physics.specs.Passes.{Room, Ready, gradients, integrands, normals, lapses, radials, radialFactors, energies, constraints, fullConstraints};
+use crate::integration::integrate;
+use vectors::exp::exp_all;
+use vectors::field_vector::reciprocal;
+use vectors::grid::delta;
+use vectors::rows::DIFF_INNER;
+use vectors::rows::DIFF_LEFT0;
+use vectors::rows::DIFF_LEFT1;
+use vectors::rows::DIFF_RIGHT0;
+use vectors::rows::DIFF_RIGHT1;
+use vectors::rows::row5;
+use vectors::rows::row5_hollow;
+
+// Slots 5 to 8, the constraints that the equations of motion read, from the field and the momentum in slots 0 and 1. Slots 9 and 10 are used.
+pub(crate) fn compute_constraints(level: u32, n: usize, w: &mut [f64])
+    requires { ⌜ Ready level n (now w) ⌝ }
+    ensures { λ _. ⌜ Became n (constraints level) (now (w .entry)) (now (w .exit)) ⌝ }
+{
+    let h = delta(level);
+    compute_radial_gradient(h, n, w);
+    compute_lapse(h, n, w);
+    compute_radial_factor(h, n, w);
+}
+
+// Slot 8: the radial gradient of the field.
+pub(crate) fn compute_radial_gradient(h: f64, n: usize, w: &mut [f64])
+    requires { ⌜ Room n (length (now w)) ⌝ }
+    ensures { λ _. ⌜ Became n (gradients h) (now (w .entry)) (now (w .exit)) ⌝ }
+{
+    let d = 12.0 * h;
+    let len = w.len();
+    let field = 0 * n;
+    let end = 1 * n;
+    let to = 8 * n;
+    let v = &w[field..end];
+    let left0 = row5(DIFF_LEFT0, v, 0) / d;
+    let left1 = row5(DIFF_LEFT1, v, 0) / d;
+    let right1 = row5(DIFF_RIGHT1, v, n - 5) / d;
+    let right0 = row5(DIFF_RIGHT0, v, n - 5) / d;
+    w[to] = left0;
+    w[to + 1] = left1;
+    let mut i = 2;
+    while i < n - 2 {
+        w[to + i] = row5_hollow(DIFF_INNER, &w[field..end], i - 2) / d;
+        i += 1;
+    }
+    w[to + (n - 2)] = right1;
+    w[to + (n - 1)] = right0;
+}
+
+// Slot 6: the lapse, and slot 9: 1 over it.
+fn compute_lapse(h: f64, n: usize, w: &mut [f64])
+    requires { ⌜ Room n (length (now w)) ⌝ }
+    ensures { λ _. ⌜ Became n (lapses n h) (now (w .entry)) (now (w .exit)) ⌝ }
+{
+    let lapse = 6 * n;
+    let end = 7 * n;
+    compute_integrand(n, w);
+    integrate(h, n, lapse, w);
+    exp_all(&mut w[lapse..end]);
+    normalise_lapse(n, w);
+}
+
+fn integrand_at(r: f64, gradient: f64, momentum: f64) -> f64
+    ensures { λ v. ⌜ v ≡ integrandAt r gradient momentum ⌝ }
+{
+    -1.0 * r * (gradient * gradient + momentum * momentum)
+}
+
+// Slot 9: the integrand of the log lapse.
+fn compute_integrand(n: usize, w: &mut [f64])
+    requires { ⌜ Room n (length (now w)) ⌝ }
+    ensures { λ _. ⌜ Became n (integrands n) (now (w .entry)) (now (w .exit)) ⌝ }
+{
+    let len = w.len();
+    let momentum = 1 * n;
+    let gradient = 8 * n;
+    let to = 9 * n;
+    let points = 19 * n;
+    let mut i = 0;
+    while i < n {
+        w[to + i] = integrand_at(w[points + i], w[gradient + i], w[momentum + i]);
+        i += 1;
+    }
+}
+
+fn scaled(factor: f64, x: f64) -> f64
+    ensures { λ v. ⌜ v ≡ mul binary64 factor x ⌝ }
+{
+    factor * x
+}
+
+// The lapse is free up to a constant factor: slot 6 is scaled to 1 at the last point. Slot 9: 1 over it.
+fn normalise_lapse(n: usize, w: &mut [f64])
+    requires { ⌜ Room n (length (now w)) ⌝ }
+    ensures { λ _. ⌜ Became n normals (now (w .entry)) (now (w .exit)) ⌝ }
+{
+    let len = w.len();
+    let lapse = 6 * n;
+    let inverse = 9 * n;
+    let factor = reciprocal(w[lapse + (n - 1)]);
+    let mut i = 0;
+    while i < n {
+        let x = scaled(factor, w[lapse + i]);
+        w[lapse + i] = x;
+        w[inverse + i] = reciprocal(x);
+        i += 1;
+    }
+}
+
+// Slots 5 and 7: the radial factor and the char speed, from slots 6 and 9. Slot 10 is used.
+fn compute_radial_factor(h: f64, n: usize, w: &mut [f64])
+    requires { ⌜ Room n (length (now w)) ⌝ }
+    ensures { λ _. ⌜ Became n (radialFactors n h) (now (w .entry)) (now (w .exit)) ⌝ }
+{
+    let integral = 10 * n;
+    integrate(h, n, integral, w);
+    radial_factor_and_char_speed(n, w);
+}
+
+fn radial_factor_at(lapse: f64, r: f64, integral: f64, first: f64) -> f64
+    ensures { λ v. ⌜ v ≡ radialFactorAt lapse r integral first ⌝ }
+{
+    lapse / r * (integral - first)
+}
+
+fn quotient(x: f64, y: f64) -> f64
+    ensures { λ v. ⌜ v ≡ div binary64 x y ⌝ }
+{
+    x / y
+}
+
+// The mass is O(r³) at the left boundary, so the radial factor is 1 there.
+fn radial_factor_and_char_speed(n: usize, w: &mut [f64])
+    requires { ⌜ Room n (length (now w)) ⌝ }
+    ensures { λ _. ⌜ Became n (radials n) (now (w .entry)) (now (w .exit)) ⌝ }
+{
+    let len = w.len();
+    let radial_factor = 5 * n;
+    let lapse = 6 * n;
+    let char_speed = 7 * n;
+    let integral = 10 * n;
+    let points = 19 * n;
+    let first = w[integral];
+    let x = quotient(1.0, w[lapse]);
+    w[radial_factor] = 1.0;
+    w[char_speed] = x;
+    let mut i = 1;
+    while i < n {
+        let a = radial_factor_at(w[lapse + i], w[points + i], w[integral + i], first);
+        let b = quotient(a, w[lapse + i]);
+        w[radial_factor + i] = a;
+        w[char_speed + i] = b;
+        i += 1;
+    }
+}
+
+fn energy_density_at(r: f64, gradient: f64, momentum: f64) -> f64
+    ensures { λ v. ⌜ v ≡ energyDensityAt r gradient momentum ⌝ }
+{
+    0.5 * (r * r) * (gradient * gradient + momentum * momentum)
+}
+
+fn mass_at(r: f64, factor: f64) -> f64
+    ensures { λ v. ⌜ v ≡ massAt r factor ⌝ }
+{
+    0.5 * r * (1.0 - factor)
+}
+
+// Slots 3 and 4: the energy density and the mass, which no stage reads.
+fn compute_energy_and_mass(n: usize, w: &mut [f64])
+    requires { ⌜ Room n (length (now w)) ⌝ }
+    ensures { λ _. ⌜ Became n (energies n) (now (w .entry)) (now (w .exit)) ⌝ }
+{
+    let len = w.len();
+    let momentum = 1 * n;
+    let energy_density = 3 * n;
+    let mass = 4 * n;
+    let radial_factor = 5 * n;
+    let gradient = 8 * n;
+    let points = 19 * n;
+    let mut i = 0;
+    while i < n {
+        let e = energy_density_at(w[points + i], w[gradient + i], w[momentum + i]);
+        let m = mass_at(w[points + i], w[radial_factor + i]);
+        w[energy_density + i] = e;
+        w[mass + i] = m;
+        i += 1;
+    }
+}
+
+// Slots 3 to 7: all constraints.
+pub(crate) fn compute_all_constraints(level: u32, n: usize, w: &mut [f64])
+    requires { ⌜ Ready level n (now w) ⌝ }
+    ensures { λ _. ⌜ Became n (fullConstraints level) (now (w .entry)) (now (w .exit)) ⌝ }
+{
+    compute_constraints(level, n, w);
+    compute_energy_and_mass(n, w);
+}

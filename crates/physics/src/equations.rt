@@ -1,0 +1,308 @@
+// The equations of motion of equations.rs, in the slots of slots.rt.
+ghost use mathlib.Core.Path.{_≡_};
+ghost use Prim.Native.Nat.{_+_, _*_, _<_, _≤_};
+ghost use lib.ListN.{length};
+ghost use lib.Ieee.{binary64, add, mul, div};
+ghost use Rattle.vectors.specs.Dissipation.{dissipationScale};
+ghost use Rattle.vectors.specs.Memory.{part, put};
+ghost use Rattle.vectors.specs.MemoryLaws.{Grown};
+ghost use Rattle.vectors.specs.StencilLaws.{eight};
+ghost use Rattle.physics.specs.Equations.{fieldRateAt, momentumRateAt, originRateAt, massRateAt, boundedOf};
+ghost use Rattle.physics.specs.Slots.{slots, Became};
+ghost use Rattle.physics.specs.Vector.{at};
+ghost use Rattle.physics.specs.Passes.{Room, Inside, ReadyEquations, Run, HalfRun, halfVal, halfOn, halves, seconds, fieldRateIn, momentumRateIn, fieldRates, momentumRates, massRates, rates, derivatives, bounds};
+use vectors::constants::DISSIPATION_FACTOR;
+use vectors::grid::delta;
+use vectors::rows::DIFF2_EDGE0;
+use vectors::rows::DIFF2_EDGE1;
+use vectors::rows::DIFF2_INNER;
+use vectors::rows::DIFF3;
+use vectors::rows::NEUMANN;
+use vectors::rows::row4;
+use vectors::rows::row5;
+use vectors::rows::row6;
+use vectors::rows::row6_descending;
+use vectors::rows::row7_hollow;
+
+// Slots 13 to 15: the time derivatives of field, momentum and alternate mass, from slots 0, 1 and 5 to 8. Slots 9, 11 and 12 are used.
+pub(crate) fn equations_of_motion(level: u32, n: usize, w: &mut [f64])
+    requires { ⌜ ReadyEquations level n (now w) ⌝ }
+    ensures { λ _. ⌜ Became n (derivatives level) (now (w .entry)) (now (w .exit)) ⌝ }
+{
+    let h = delta(level);
+    let scale = dissipation_scale(h);
+    half_dissipations(n, w);
+    second_difference(h, n, w);
+    compute_rates(n, scale, w);
+}
+
+fn dissipation_scale(h: f64) -> f64
+    ensures { λ r. ⌜ r ≡ dissipationScale h ⌝ }
+{
+    DISSIPATION_FACTOR / h / 64.0
+}
+
+// Slots 11 and 12: the radial correction times the third difference, of field and momentum.
+fn half_dissipations(n: usize, w: &mut [f64])
+    requires { ⌜ Room n (length (now w)) ⌝ }
+    ensures { λ _. ⌜ Became n halves (now (w .entry)) (now (w .exit)) ⌝ }
+{
+    let field = 0 * n;
+    let momentum = 1 * n;
+    let half_field = 11 * n;
+    let half_momentum = 12 * n;
+    half_dissipation(n, field, half_field, w);
+    half_dissipation(n, momentum, half_momentum, w);
+}
+
+fn half_dissipation(n: usize, from: usize, to: usize, w: &mut [f64])
+    requires { ⌜ HalfRun n (length (now w)) from to ⌝ }
+    ensures { λ _. ⌜ now (w .exit) ≡ put to (halfOn (at (slots n (now (w .entry)) 20)) (part from n (now (w .entry)))) (now (w .entry)) ⌝ }
+{
+    let end = n - 3;
+    half_dissipation_run(n, from, to, 0, 3, 0, w);
+    half_dissipation_run(n, from, to, 3, end, 3, w);
+    half_dissipation_run(n, from, to, end, n, 6, w);
+}
+
+// Points lo to hi, where the seven numbers of a point's row begin back before it.
+fn half_dissipation_run(
+    n: usize,
+    from: usize,
+    to: usize,
+    lo: usize,
+    hi: usize,
+    back: usize,
+    w: &mut [f64],
+)
+    requires { ⌜ (HalfRun n (length (now w)) from to) × (Run n lo hi back) ⌝ }
+    ensures { λ _. ⌜ (length (now (w .exit)) ≡ length (now (w .entry)))
+        × Grown to lo hi (λ E. halfVal (at (slots n E 20)) (part from n E)) (now (w .entry)) (now (w .exit)) ⌝ }
+{
+    let len = w.len();
+    let correction = 20 * n;
+    let end = from + n;
+    let mut i = lo;
+    while i < hi {
+        w[to + i] = half_dissipation_at(
+            w[correction + i],
+            row7_hollow(DIFF3, &w[from..end], i - back),
+        );
+        i += 1;
+    }
+}
+
+fn half_dissipation_at(correction: f64, sum: f64) -> f64
+    ensures { λ v. ⌜ v ≡ mul binary64 correction (div binary64 sum eight) ⌝ }
+{
+    correction * (sum / 8.0)
+}
+
+// Slot 9: the second difference of the field.
+fn second_difference(h: f64, n: usize, w: &mut [f64])
+    requires { ⌜ Room n (length (now w)) ⌝ }
+    ensures { λ _. ⌜ Became n (seconds h) (now (w .entry)) (now (w .exit)) ⌝ }
+{
+    let d = 12.0 * (h * h);
+    let len = w.len();
+    let field = 0 * n;
+    let end = 1 * n;
+    let to = 9 * n;
+    let v = &w[field..end];
+    let left0 = row6(DIFF2_EDGE0, v, 0) / d;
+    let left1 = row6(DIFF2_EDGE1, v, 0) / d;
+    let right1 = row6_descending(DIFF2_EDGE1, v, n - 6) / d;
+    let right0 = row6_descending(DIFF2_EDGE0, v, n - 6) / d;
+    w[to] = left0;
+    w[to + 1] = left1;
+    let mut i = 2;
+    while i < n - 2 {
+        w[to + i] = row5(DIFF2_INNER, &w[field..end], i - 2) / d;
+        i += 1;
+    }
+    w[to + (n - 2)] = right1;
+    w[to + (n - 1)] = right0;
+}
+
+fn compute_rates(n: usize, scale: f64, w: &mut [f64])
+    requires { ⌜ Room n (length (now w)) ⌝ }
+    ensures { λ _. ⌜ Became n (rates n scale) (now (w .entry)) (now (w .exit)) ⌝ }
+{
+    calculate_dt_field(n, scale, w);
+    calculate_dt_conj_momentum(n, scale, w);
+    calculate_dt_alternate_mass(n, w);
+}
+
+// Slot 13.
+fn calculate_dt_field(n: usize, scale: f64, w: &mut [f64])
+    requires { ⌜ Room n (length (now w)) ⌝ }
+    ensures { λ _. ⌜ Became n (fieldRates n scale) (now (w .entry)) (now (w .exit)) ⌝ }
+{
+    let end = n - 3;
+    dt_field_run(n, scale, 0, 3, 0, w);
+    dt_field_run(n, scale, 3, end, 3, w);
+    dt_field_run(n, scale, end, n, 6, w);
+}
+
+fn dt_field_run(n: usize, scale: f64, lo: usize, hi: usize, back: usize, w: &mut [f64])
+    requires { ⌜ (Room n (length (now w))) × (Run n lo hi back) ⌝ }
+    ensures { λ _. ⌜ (length (now (w .exit)) ≡ length (now (w .entry)))
+        × Grown (13 * n) lo hi (λ E. fieldRateIn scale (slots n E)) (now (w .entry)) (now (w .exit)) ⌝ }
+{
+    let len = w.len();
+    let momentum = 1 * n;
+    let char_speed = 7 * n;
+    let half = 11 * n;
+    let end = 12 * n;
+    let to = 13 * n;
+    let mut i = lo;
+    while i < hi {
+        w[to + i] = dt_field_at(
+            w[char_speed + i],
+            w[momentum + i],
+            scale,
+            row7_hollow(DIFF3, &w[half..end], i - back),
+        );
+        i += 1;
+    }
+}
+
+fn dt_field_at(speed: f64, momentum: f64, scale: f64, sum: f64) -> f64
+    ensures { λ v. ⌜ v ≡ add binary64 (fieldRateAt speed momentum) (mul binary64 scale (div binary64 sum eight)) ⌝ }
+{
+    speed * momentum + scale * (sum / 8.0)
+}
+
+// Slot 14. Point 0 is set by L'Hopital's rule.
+fn calculate_dt_conj_momentum(n: usize, scale: f64, w: &mut [f64])
+    requires { ⌜ Room n (length (now w)) ⌝ }
+    ensures { λ _. ⌜ Became n (momentumRates n scale) (now (w .entry)) (now (w .exit)) ⌝ }
+{
+    let end = n - 3;
+    dt_conj_momentum_origin(n, scale, w);
+    dt_conj_momentum_run(n, scale, 1, 3, 0, w);
+    dt_conj_momentum_run(n, scale, 3, end, 3, w);
+    dt_conj_momentum_run(n, scale, end, n, 6, w);
+}
+
+fn dt_conj_momentum_origin(n: usize, scale: f64, w: &mut [f64])
+    requires { ⌜ Room n (length (now w)) ⌝ }
+    ensures { λ _. ⌜ (length (now (w .exit)) ≡ length (now (w .entry)))
+        × Grown (14 * n) 0 1 (λ E. momentumRateIn scale (slots n E)) (now (w .entry)) (now (w .exit)) ⌝ }
+{
+    let lapse = 6 * n;
+    let second = 9 * n;
+    let half = 12 * n;
+    let end = 13 * n;
+    let to = 14 * n;
+    let rate = dt_conj_momentum_at_origin(
+        w[second],
+        w[lapse],
+        scale,
+        row7_hollow(DIFF3, &w[half..end], 0),
+    );
+    w[to] = rate;
+}
+
+fn dt_conj_momentum_at_origin(second: f64, lapse: f64, scale: f64, sum: f64) -> f64
+    ensures { λ v. ⌜ v ≡ add binary64 (originRateAt second lapse) (mul binary64 scale (div binary64 sum eight)) ⌝ }
+{
+    3.0 * second / lapse + scale * (sum / 8.0)
+}
+
+fn dt_conj_momentum_run(n: usize, scale: f64, lo: usize, hi: usize, back: usize, w: &mut [f64])
+    requires { ⌜ (Room n (length (now w))) × (Run n lo hi back) × (1 ≤ lo) ⌝ }
+    ensures { λ _. ⌜ (length (now (w .exit)) ≡ length (now (w .entry)))
+        × Grown (14 * n) lo hi (λ E. momentumRateIn scale (slots n E)) (now (w .entry)) (now (w .exit)) ⌝ }
+{
+    let len = w.len();
+    let radial_factor = 5 * n;
+    let lapse = 6 * n;
+    let char_speed = 7 * n;
+    let first = 8 * n;
+    let second = 9 * n;
+    let half = 12 * n;
+    let end = 13 * n;
+    let to = 14 * n;
+    let points = 19 * n;
+    let mut i = lo;
+    while i < hi {
+        let smooth = scale * (row7_hollow(DIFF3, &w[half..end], i - back) / 8.0);
+        w[to + i] = dt_conj_momentum_at(
+            w[char_speed + i],
+            w[second + i],
+            w[radial_factor + i],
+            w[first + i],
+            w[points + i],
+            w[lapse + i],
+            smooth,
+        );
+        i += 1;
+    }
+}
+
+fn dt_conj_momentum_at(
+    speed: f64,
+    second: f64,
+    factor: f64,
+    first: f64,
+    r: f64,
+    lapse: f64,
+    smooth: f64,
+) -> f64
+    ensures { λ v. ⌜ v ≡ add binary64 (momentumRateAt speed second factor first r lapse) smooth ⌝ }
+{
+    speed * second + (factor + 1.0) * first / (r * lapse) + smooth
+}
+
+// Slot 15.
+fn calculate_dt_alternate_mass(n: usize, w: &mut [f64])
+    requires { ⌜ Room n (length (now w)) ⌝ }
+    ensures { λ _. ⌜ Became n (massRates n) (now (w .entry)) (now (w .exit)) ⌝ }
+{
+    let len = w.len();
+    let momentum = 1 * n;
+    let radial_factor = 5 * n;
+    let lapse = 6 * n;
+    let gradient = 8 * n;
+    let to = 15 * n;
+    let points = 19 * n;
+    let mut i = 0;
+    while i < n {
+        w[to + i] = dt_alternate_mass_at(
+            w[points + i],
+            w[radial_factor + i],
+            w[lapse + i],
+            w[gradient + i],
+            w[momentum + i],
+        );
+        i += 1;
+    }
+}
+
+fn dt_alternate_mass_at(r: f64, factor: f64, lapse: f64, gradient: f64, momentum: f64) -> f64
+    ensures { λ v. ⌜ v ≡ massRateAt r factor lapse gradient momentum ⌝ }
+{
+    (r * r) * (factor * factor) / lapse * gradient * momentum
+}
+
+// Slots 0 and 1: a left Neumann value for regularity at the origin, and 0 at the last point, which reflects.
+pub(crate) fn apply_bcs(n: usize, w: &mut [f64])
+    requires { ⌜ Room n (length (now w)) ⌝ }
+    ensures { λ _. ⌜ Became n bounds (now (w .entry)) (now (w .exit)) ⌝ }
+{
+    let field = 0 * n;
+    let momentum = 1 * n;
+    set_bcs(n, field, w);
+    set_bcs(n, momentum, w);
+}
+
+fn set_bcs(n: usize, at: usize, w: &mut [f64])
+    requires { ⌜ (9 ≤ n) × (at + n ≤ length (now w)) ⌝ }
+    ensures { λ _. ⌜ now (w .exit) ≡ put at (boundedOf (part at n (now (w .entry)))) (now (w .entry)) ⌝ }
+{
+    let end = at + n;
+    let left = row4(NEUMANN, &w[at..end], 1) / 25.0;
+    w[at] = left;
+    w[at + (n - 1)] = 0.0;
+}

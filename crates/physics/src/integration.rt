@@ -1,0 +1,270 @@
+// `rk4_step` and `integrate` of integration.rs, in the slots of slots.rt.
+ghost use mathlib.Core.Path.{_≡_};
+ghost use Prim.Native.Nat.{_+_, _*_, _<_, _≤_};
+ghost use lib.ListN.{length};
+ghost use Rattle.vectors.specs.Answer.{numberOf};
+ghost use Rattle.vectors.specs.Fault.{faultOf};
+ghost use Rattle.vectors.specs.Grid.{pointsOf};
+ghost use Rattle.vectors.specs.Memory.{part, put};
+ghost use Rattle.physics.specs.Integral.{quadraticOver, simpsonOver, eighthsOver, integralOf};
+ghost use Rattle.physics.specs.Rk4.{rk4Of};
+ghost use Rattle.physics.specs.Slots.{slots, Became};
+ghost use Rattle.physics.specs.Passes.{Room, Target, grids};
+ghost use Rattle.physics.specs.StepPasses.{States, ReadyStep, loadsVariables, loadsConstraints, begins, doubles, firsts, forms, stages, doubledStages, ends, lasts, steps};
+ghost use Rattle.physics.specs.Stepped.{steppedNumber, steppedTime, timeAfter, roomToStep, stateIn};
+ghost use Rattle.physics.specs.WorkAfter.{WorkAfter};
+use crate::constraint_computer::compute_all_constraints;
+use crate::constraint_computer::compute_constraints;
+use crate::constraint_computer::compute_radial_gradient;
+use crate::equations::apply_bcs;
+use crate::equations::equations_of_motion;
+use crate::slots::add_scaled;
+use crate::slots::advance;
+use crate::slots::advance_by_sum;
+use crate::slots::copy_vector;
+use crate::slots::copy_within;
+use crate::slots::fill_grid;
+use vectors::answer::Answer;
+use vectors::answer::and_also;
+use vectors::answer::checked;
+use vectors::grid::delta as spacing;
+use vectors::grid::length_at_discretization;
+
+// `steppedNumber` and `steppedTime` in specs/Stepped.antt give each case the number that document 01 has for it, and the next time.
+pub enum Stepped {
+    To(f64),
+    RefusedLevel,
+    RefusedLength,
+}
+
+// Performs a Runge-Kutta 4th order time step: the next state's vectors are left in numbers 8n to 16n of work memory.
+pub fn rk4_step(level: u32, time: f64, delta: f64, state: &[f64], work: &mut [f64]) -> Stepped
+    ensures { λ r. ⌜ (steppedNumber r ≡ faultOf level (roomToStep level (length (now (state .entry))) (length (now (work .entry)))))
+        × (steppedTime r ≡ timeAfter (steppedNumber r) (rk4Of level delta (stateIn level time (now (state .entry))) .time))
+        × WorkAfter (steppedNumber r) level (rk4Of level delta (stateIn level time (now (state .entry)))) (now (work .entry)) (now (work .exit)) ⌝ }
+{
+    let answer = checked_room(level, state.len(), work.len());
+    match answer {
+        Answer::Done => {
+            let n = length_at_discretization(level);
+            let start = 8 * n;
+            let end = 29 * n;
+            advance_state(level, n, delta, state, &mut work[start..end]);
+            Stepped::To(time + delta)
+        }
+        Answer::RefusedLevel => Stepped::RefusedLevel,
+        Answer::RefusedLength => Stepped::RefusedLength,
+    }
+}
+
+fn checked_room(level: u32, state: usize, work: usize) -> Answer
+    ensures { λ r. ⌜ numberOf r ≡ faultOf level (roomToStep level state work) ⌝ }
+{
+    let n = length_at_discretization(level);
+    checked(level, and_also(8 * n <= state, 40 * n <= work))
+}
+
+// Slots 0 to 7: the state that is delta after the one in state memory.
+fn advance_state(level: u32, n: usize, delta: f64, state: &[f64], w: &mut [f64])
+    requires { ⌜ (n ≡ pointsOf level) × States n (length (now state)) (length (now w)) ⌝ }
+    ensures { λ _. ⌜ Became n (λ S. steps level n delta (slots n (now (state .entry))) (grids level n S)) (now (w .entry)) (now (w .exit)) ⌝ }
+{
+    fill_grid(level, n, w);
+    take_stages(level, n, delta, state, w);
+}
+
+fn take_stages(level: u32, n: usize, delta: f64, state: &[f64], w: &mut [f64])
+    requires { ⌜ ReadyStep level n (length (now state)) (now w) ⌝ }
+    ensures { λ _. ⌜ Became n (steps level n delta (slots n (now (state .entry)))) (now (w .entry)) (now (w .exit)) ⌝ }
+{
+    first_stage(level, n, state, w);
+    doubled_stage(level, n, 0.5 * delta, state, w);
+    doubled_stage(level, n, 0.5 * delta, state, w);
+    stage(level, n, delta, state, w);
+    next_state(level, n, delta / 6.0, state, w);
+}
+
+// The rates at the state, with the constraints that it stores, and the sums that begin with them.
+fn first_stage(level: u32, n: usize, state: &[f64], w: &mut [f64])
+    requires { ⌜ ReadyStep level n (length (now state)) (now w) ⌝ }
+    ensures { λ _. ⌜ Became n (firsts level (slots n (now (state .entry)))) (now (w .entry)) (now (w .exit)) ⌝ }
+{
+    load_variables(n, state, w);
+    load_constraints(n, state, w);
+    compute_radial_gradient(spacing(level), n, w);
+    equations_of_motion(level, n, w);
+    begin_sums(n, w);
+}
+
+// Slots 0 and 1: the field and the momentum of the state.
+fn load_variables(n: usize, state: &[f64], w: &mut [f64])
+    requires { ⌜ States n (length (now state)) (length (now w)) ⌝ }
+    ensures { λ _. ⌜ Became n (loadsVariables (slots n (now (state .entry)))) (now (w .entry)) (now (w .exit)) ⌝ }
+{
+    let field = 0 * n;
+    let momentum = 1 * n;
+    let end = 2 * n;
+    copy_vector(&state[field..momentum], field, w);
+    copy_vector(&state[momentum..end], momentum, w);
+}
+
+// Slots 5 to 7: the radial factor, the lapse and the char speed of the state.
+fn load_constraints(n: usize, state: &[f64], w: &mut [f64])
+    requires { ⌜ States n (length (now state)) (length (now w)) ⌝ }
+    ensures { λ _. ⌜ Became n (loadsConstraints (slots n (now (state .entry)))) (now (w .entry)) (now (w .exit)) ⌝ }
+{
+    let radial_factor = 5 * n;
+    let lapse = 6 * n;
+    let char_speed = 7 * n;
+    let end = 8 * n;
+    copy_vector(&state[radial_factor..lapse], radial_factor, w);
+    copy_vector(&state[lapse..char_speed], lapse, w);
+    copy_vector(&state[char_speed..end], char_speed, w);
+}
+
+// Slots 16 to 18: the rates in slots 13 to 15.
+fn begin_sums(n: usize, w: &mut [f64])
+    requires { ⌜ Room n (length (now w)) ⌝ }
+    ensures { λ _. ⌜ Became n begins (now (w .entry)) (now (w .exit)) ⌝ }
+{
+    let dt_field = 13 * n;
+    let dt_momentum = 14 * n;
+    let dt_mass = 15 * n;
+    let field_sum = 16 * n;
+    let momentum_sum = 17 * n;
+    let mass_sum = 18 * n;
+    copy_within(dt_field, field_sum, n, w);
+    copy_within(dt_momentum, momentum_sum, n, w);
+    copy_within(dt_mass, mass_sum, n, w);
+}
+
+// Slots 16 to 18: twice the rates added.
+fn add_doubled(n: usize, w: &mut [f64])
+    requires { ⌜ Room n (length (now w)) ⌝ }
+    ensures { λ _. ⌜ Became n (doubles n) (now (w .entry)) (now (w .exit)) ⌝ }
+{
+    let dt_field = 13 * n;
+    let dt_momentum = 14 * n;
+    let dt_mass = 15 * n;
+    let field_sum = 16 * n;
+    let momentum_sum = 17 * n;
+    let mass_sum = 18 * n;
+    add_scaled(2.0, dt_field, field_sum, n, w);
+    add_scaled(2.0, dt_momentum, momentum_sum, n, w);
+    add_scaled(2.0, dt_mass, mass_sum, n, w);
+}
+
+// A stage whose rates count twice in the sums.
+fn doubled_stage(level: u32, n: usize, c: f64, state: &[f64], w: &mut [f64])
+    requires { ⌜ ReadyStep level n (length (now state)) (now w) ⌝ }
+    ensures { λ _. ⌜ Became n (doubledStages level n c (slots n (now (state .entry)))) (now (w .entry)) (now (w .exit)) ⌝ }
+{
+    stage(level, n, c, state, w);
+    add_doubled(n, w);
+}
+
+// The rates at the field and the momentum that are c along the last rates from those of the state.
+fn stage(level: u32, n: usize, c: f64, state: &[f64], w: &mut [f64])
+    requires { ⌜ ReadyStep level n (length (now state)) (now w) ⌝ }
+    ensures { λ _. ⌜ Became n (stages level n c (slots n (now (state .entry)))) (now (w .entry)) (now (w .exit)) ⌝ }
+{
+    form_stage(level, n, c, state, w);
+    equations_of_motion(level, n, w);
+}
+
+fn form_stage(level: u32, n: usize, c: f64, state: &[f64], w: &mut [f64])
+    requires { ⌜ ReadyStep level n (length (now state)) (now w) ⌝ }
+    ensures { λ _. ⌜ Became n (forms level n c (slots n (now (state .entry)))) (now (w .entry)) (now (w .exit)) ⌝ }
+{
+    let field = 0 * n;
+    let momentum = 1 * n;
+    let end = 2 * n;
+    let dt_field = 13 * n;
+    let dt_momentum = 14 * n;
+    advance(&state[field..momentum], c, dt_field, field, n, w);
+    advance(&state[momentum..end], c, dt_momentum, momentum, n, w);
+    apply_bcs(n, w);
+    compute_constraints(level, n, w);
+}
+
+// Slots 0 to 7: the state that is c along the sums, with the last rates added to them.
+fn next_state(level: u32, n: usize, c: f64, state: &[f64], w: &mut [f64])
+    requires { ⌜ ReadyStep level n (length (now state)) (now w) ⌝ }
+    ensures { λ _. ⌜ Became n (lasts level n c (slots n (now (state .entry)))) (now (w .entry)) (now (w .exit)) ⌝ }
+{
+    next_variables(n, c, state, w);
+    apply_bcs(n, w);
+    compute_all_constraints(level, n, w);
+}
+
+fn next_variables(n: usize, c: f64, state: &[f64], w: &mut [f64])
+    requires { ⌜ States n (length (now state)) (length (now w)) ⌝ }
+    ensures { λ _. ⌜ Became n (ends n c (slots n (now (state .entry)))) (now (w .entry)) (now (w .exit)) ⌝ }
+{
+    let field = 0 * n;
+    let momentum = 1 * n;
+    let mass = 2 * n;
+    let end = 3 * n;
+    let dt_field = 13 * n;
+    let dt_momentum = 14 * n;
+    let dt_mass = 15 * n;
+    let field_sum = 16 * n;
+    let momentum_sum = 17 * n;
+    let mass_sum = 18 * n;
+    advance_by_sum(&state[field..momentum], c, field_sum, dt_field, field, n, w);
+    advance_by_sum(
+        &state[momentum..mass],
+        c,
+        momentum_sum,
+        dt_momentum,
+        momentum,
+        n,
+        w,
+    );
+    advance_by_sum(&state[mass..end], c, mass_sum, dt_mass, mass, n, w);
+}
+
+fn quadratic_over(h: f64, v: &[f64]) -> f64
+    requires { ⌜ 2 < length (now v) ⌝ }
+    ensures { λ r. ⌜ r ≡ quadraticOver h (now (v .entry)) ⌝ }
+{
+    h / 12.0 * (5.0 * v[0] + 8.0 * v[1] - v[2])
+}
+
+fn simpson_over(h: f64, v: &[f64], i: usize) -> f64
+    requires { ⌜ (2 ≤ i) × (i < length (now v)) ⌝ }
+    ensures { λ r. ⌜ r ≡ simpsonOver h (now (v .entry)) i ⌝ }
+{
+    h / 3.0 * (v[i - 2] + 4.0 * v[i - 1] + v[i])
+}
+
+fn eighths_over(h: f64, v: &[f64], i: usize) -> f64
+    requires { ⌜ (3 ≤ i) × (i < length (now v)) ⌝ }
+    ensures { λ r. ⌜ r ≡ eighthsOver h (now (v .entry)) i ⌝ }
+{
+    3.0 * h / 8.0 * (v[i - 3] + 3.0 * v[i - 2] + 3.0 * v[i - 1] + v[i])
+}
+
+// The running integral of slot 9, to the numbers from to on.
+pub(crate) fn integrate(h: f64, n: usize, to: usize, w: &mut [f64])
+    requires { ⌜ Target n (length (now w)) to ⌝ }
+    ensures { λ _. ⌜ now (w .exit) ≡ put to (integralOf h (slots n (now (w .entry)) 9)) (now (w .entry)) ⌝ }
+{
+    let len = w.len();
+    let from = 9 * n;
+    let end = 10 * n;
+    let v = &w[from..end];
+    let second = quadratic_over(h, v);
+    let third = simpson_over(h, v, 2);
+    w[to] = 0.0;
+    w[to + 1] = second;
+    w[to + 2] = third;
+    let mut i = 3;
+    while i < n {
+        let odd = w[to + (i - 3)] + eighths_over(h, &w[from..end], i);
+        w[to + i] = odd;
+        let even = w[to + (i - 1)] + simpson_over(h, &w[from..end], i + 1);
+        w[to + (i + 1)] = even;
+        i += 2;
+    }
+}

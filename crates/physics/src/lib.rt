@@ -1,0 +1,6 @@
+// The physics of the collapse: constraints, equations of motion, and the time step.
+mod constraint_computer;
+mod equations;
+pub mod integration;
+mod slots;
+pub mod state_builder;

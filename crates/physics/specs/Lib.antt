@@ -1,3 +1,4 @@
+pub mod BlackHole
 pub mod BoundaryLaws
 pub mod Built
 pub mod ConstraintLaws
@@ -10,14 +11,21 @@ pub mod InitialPasses
 pub mod InitialState
 pub mod Integral
 pub mod IntegralLaws
+pub mod Nan
+pub mod NanLaws
 pub mod PassLaws
 pub mod Passes
+pub mod Quadrature
 pub mod Rk4
 pub mod Slots
 pub mod State
+pub mod StateLaws
 pub mod StepLaws
 pub mod StepPasses
 pub mod Stepped
+pub mod Store
+pub mod Tableau
+pub mod TotalEnergy
 pub mod Vector
 pub mod VectorLaws
 pub mod WorkAfter

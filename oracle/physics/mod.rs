@@ -3,7 +3,7 @@ mod diagnostics;
 mod forged;
 mod refusals;
 mod runs;
-mod states;
+pub mod states;
 
 pub fn print() {
     runs::print();

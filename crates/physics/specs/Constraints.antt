@@ -5,12 +5,12 @@ use Prim.Native.Nat.{ℕ, _-_}
 use lib.Dec.{eqb}
 use lib.ListN.{length}
 use lib.Ieee.{Float, binary64, add, sub, mul, div, neg}
-use Rattle.vectors.specs.Constants.{nearestTo}
+use Rattle.vectors.specs.Constants.{nearestTo, whole}
 use Rattle.vectors.specs.Exp.{expOf}
 use Rattle.vectors.specs.Grid.{pointsOf, spacingOf, pointOf}
 use Rattle.vectors.specs.Memory.{tab}
 use Rattle.vectors.specs.Powers.{squareOf, reciprocalOf}
-use Rattle.vectors.specs.Stencil.{whole, diffOf}
+use Rattle.vectors.specs.Stencil.{diffOf}
 use Rattle.physics.specs.Integral.{integralOf}
 use Rattle.physics.specs.Vector.{at}
 

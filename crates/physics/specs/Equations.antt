@@ -9,7 +9,8 @@ use Rattle.vectors.specs.Dissipation.{dissipationAt}
 use Rattle.vectors.specs.Grid.{pointsOf, spacingOf, pointOf}
 use Rattle.vectors.specs.Memory.{tab}
 use Rattle.vectors.specs.Powers.{squareOf}
-use Rattle.vectors.specs.Stencil.{whole, diffOf, diff2Of, neumannOf, withLeftNeumann}
+use Rattle.vectors.specs.Constants.{whole}
+use Rattle.vectors.specs.Stencil.{diffOf, diff2Of, neumannOf, withLeftNeumann}
 use Rattle.physics.specs.Constraints.{Constraints, radialGradientOf}
 use Rattle.physics.specs.Vector.{at}
 

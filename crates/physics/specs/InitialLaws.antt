@@ -15,7 +15,7 @@ use Rattle.vectors.specs.Grid.{pointsOf, pointOf}
 use Rattle.vectors.specs.GridLaws.{Level}
 use Rattle.vectors.specs.Memory.{tab}
 use Rattle.vectors.specs.MemoryLaws.{length-tab, getD-tab}
-use Rattle.vectors.specs.Stencil.{whole}
+use Rattle.vectors.specs.Constants.{whole}
 use Rattle.physics.specs.Built.{roomToBuild}
 use Rattle.physics.specs.Constraints.{constraintsOf}
 use Rattle.physics.specs.InitialPasses.{exponentVal, exponents, scales, profileOn, variables, initials}

@@ -4,7 +4,7 @@ use Prim.Native.Nat.{ℕ}
 use lib.Ieee.{Float, binary64, mul}
 use Rattle.vectors.specs.Exp.{expOf}
 use Rattle.vectors.specs.Memory.{tab}
-use Rattle.vectors.specs.Stencil.{whole}
+use Rattle.vectors.specs.Constants.{whole}
 use Rattle.physics.specs.InitialState.{exponentAt}
 use Rattle.physics.specs.Passes.{fullConstraints}
 use Rattle.physics.specs.Slots.{Slots, upd}

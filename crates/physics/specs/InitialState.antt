@@ -3,12 +3,11 @@ use mathlib.Core.Path.{_≡_, refl}
 use mathlib.Core.List.{List}
 use Prim.Native.Nat.{ℕ, _^_}
 use lib.Ieee.{Float, binary64, mul, div, neg, round, ofInt, ofBits}
-use Rattle.vectors.specs.Constants.{nearestTo, initialWaveSteepness}
+use Rattle.vectors.specs.Constants.{nearestTo, initialWaveSteepness, whole}
 use Rattle.vectors.specs.Exp.{expOf}
 use Rattle.vectors.specs.Grid.{pointsOf, pointOf}
 use Rattle.vectors.specs.Memory.{tab}
 use Rattle.vectors.specs.Powers.{squareOf}
-use Rattle.vectors.specs.Stencil.{whole}
 use Rattle.vectors.specs.Tan.{tanOf}
 use Rattle.physics.specs.Constraints.{constraintsOf}
 use Rattle.physics.specs.State.{State}

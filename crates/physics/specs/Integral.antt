@@ -6,7 +6,7 @@ use lib.Dec.{eqb}
 use lib.ListN.{length}
 use lib.Ieee.{Float, binary64, add, sub, mul, div}
 use Rattle.vectors.specs.Memory.{tab}
-use Rattle.vectors.specs.Stencil.{whole}
+use Rattle.vectors.specs.Constants.{whole}
 use Rattle.physics.specs.Vector.{at}
 
 -- points 0 to 1 by the quadratic through 0, 1 and 2

@@ -13,7 +13,8 @@ use Rattle.vectors.specs.Grid.{pointsOf, spacingOf, pointOf}
 use Rattle.vectors.specs.Memory.{tab}
 use Rattle.vectors.specs.MemoryLaws.{apart}
 use Rattle.vectors.specs.Powers.{reciprocalOf}
-use Rattle.vectors.specs.Stencil.{whole, diffOf, diff2Of, diff3At}
+use Rattle.vectors.specs.Constants.{whole}
+use Rattle.vectors.specs.Stencil.{diffOf, diff2Of, diff3At}
 use Rattle.vectors.specs.StencilLaws.{Window}
 use Rattle.physics.specs.Constraints.{Constraints, integrandAt, normalisedOf, radialFactorAt, energyDensityAt, massAt, radialGradientOf, lapseOf, radialFactorOf, charSpeedOf, energyDensityOf, massOf}
 use Rattle.physics.specs.Equations.{fieldRateAt, momentumRateAt, originRateAt, massRateAt, dtFieldOf, dtConjMomentumOf, dtAlternateMassOf, boundedOf}

@@ -4,7 +4,7 @@ use Prim.Native.Nat.{ℕ}
 use lib.Ieee.{Float, binary64, add, mul, div}
 use Rattle.vectors.specs.Grid.{pointsOf}
 use Rattle.vectors.specs.Memory.{tab}
-use Rattle.vectors.specs.Stencil.{whole}
+use Rattle.vectors.specs.Constants.{whole}
 use Rattle.physics.specs.Constraints.{Constraints, half, constraintsOf}
 use Rattle.physics.specs.Equations.{Equations, equationsOf, boundedOf}
 use Rattle.physics.specs.State.{State}

@@ -12,7 +12,7 @@ use Rattle.vectors.specs.GridLaws.{point-out}
 use Rattle.vectors.specs.Dissipation.{radialCorrectionOf}
 use Rattle.vectors.specs.Memory.{tab, part}
 use Rattle.vectors.specs.MemoryLaws.{length-tab, getD-tab}
-use Rattle.vectors.specs.Stencil.{whole}
+use Rattle.vectors.specs.Constants.{whole}
 use Rattle.physics.specs.Constraints.{half, radialGradientOf, constraintsOf}
 use Rattle.physics.specs.Equations.{Equations, equationsOf, boundedOf}
 use Rattle.physics.specs.State.{State, layOut}

@@ -7,7 +7,7 @@ use lib.ListN.{length}
 use lib.Ieee.{Float, binary64, add, mul, div}
 use Rattle.vectors.specs.Memory.{tab}
 use Rattle.vectors.specs.MemoryLaws.{apart}
-use Rattle.vectors.specs.Stencil.{whole}
+use Rattle.vectors.specs.Constants.{whole}
 use Rattle.physics.specs.Constraints.{half, radialGradientOf}
 use Rattle.physics.specs.Passes.{Ready, constraints, fullConstraints, derivatives, bounds}
 use Rattle.physics.specs.Slots.{Slots, upd}

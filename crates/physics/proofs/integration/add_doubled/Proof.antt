@@ -2,7 +2,7 @@
 use mathlib.Core.Path.{refl}
 use native.Mathlib.Omega.{arith}
 use lib.Ieee.{ofBits, ofInt}
-use Rattle.vectors.specs.Stencil.{whole}
+use Rattle.vectors.specs.Constants.{whole}
 use Rattle.physics.specs.Vector.{advancedOf}
 use Rattle.physics.specs.VectorLaws.{length-advancedOf}
 use Rattle.physics.specs.Slots.{slots, slots-apart, wrote, both}

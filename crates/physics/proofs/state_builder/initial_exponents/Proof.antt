@@ -6,7 +6,7 @@ use lib.ListN.{length, length-set}
 use lib.Ieee.{nan, ofBits, ofInt}
 use Rattle.vectors.specs.Memory.{tab}
 use Rattle.vectors.specs.MemoryLaws.{length-tab}
-use Rattle.vectors.specs.Stencil.{whole}
+use Rattle.vectors.specs.Constants.{whole}
 use Rattle.physics.specs.Fills.{Grown2, grown2-none, grown2-step, filled2-none, filled2-put}
 use Rattle.physics.specs.Slots.{slots, slots-apart, reads2, wrote2}
 use Rattle.physics.specs.InitialState.{exponentAt}

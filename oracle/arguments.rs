@@ -1,4 +1,4 @@
-//! The arguments of the cases, by a small generator. crates/vectors_cases/src/arguments.rt does the same.
+//! The arguments of the cases, by a small generator. crates/cases/src/arguments.rt does the same.
 use crate::digest::{mixed, of_bits};
 use crate::domain::field_vector::FieldVector;
 use crate::domain::grid::Grid;

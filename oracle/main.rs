@@ -4,6 +4,7 @@ mod digest;
 mod domain;
 mod mantissas;
 mod ours;
+mod physics;
 mod use_cases;
 mod vectors;
 
@@ -11,8 +12,9 @@ fn main() {
     let name = std::env::args().nth(1).unwrap_or_default();
     match name.as_str() {
         "vectors" => vectors::print(),
+        "physics" => physics::print(),
         _ => {
-            eprintln!("usage: oracle vectors");
+            eprintln!("usage: oracle vectors | physics");
             std::process::exit(2);
         }
     }

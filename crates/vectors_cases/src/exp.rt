@@ -1,8 +1,8 @@
 // exp where N is a tie and beside it, and mapped over vectors of several lengths.
-use crate::arguments;
-use crate::digest::digest;
 use crate::functions;
-use crate::print;
+use cases::arguments;
+use cases::digest::digest;
+use cases::print;
 
 // Arguments whose rounded product with 256 × a lies half way between two whole numbers; oracle/vectors/ties.rs finds them.
 const TIES: [u64; 40] = [

@@ -1,9 +1,49 @@
 // exp, tan and the powers.
-use crate::arguments;
-use crate::digest::bits_of;
-use crate::digest::of_bits;
-use crate::digest::with;
-use crate::print;
+use cases::arguments;
+use cases::digest::bits_of;
+use cases::digest::of_bits;
+use cases::digest::with;
+use cases::print;
+
+// As in oracle/arguments.rs.
+const SPECIAL: [u64; 36] = [
+    0x0000000000000000,
+    0x8000000000000000,
+    0x0000000000000001,
+    0x8000000000000001,
+    0x000FFFFFFFFFFFFF,
+    0x800FFFFFFFFFFFFF,
+    0x0010000000000000,
+    0x8010000000000000,
+    0x0008000000000000,
+    0x3C90000000000000,
+    0x3FF0000000000000,
+    0xBFF0000000000000,
+    0x4000000000000000,
+    0x3FE62E42FEFA39EF,
+    0x40862800000000FF,
+    0x4086280000000001,
+    0x4086280000000000,
+    0x408627FFFFFFFFFF,
+    0x40862E42FEFA39EF,
+    0xC086200000000001,
+    0xC086200000000000,
+    0xC0861FFFFFFFFFFF,
+    0xC086232BDD7ABCD2,
+    0xC0874910D52D3051,
+    0x3FF921FB54442D17,
+    0x3FF921FB54442D18,
+    0x3FF921FB54442D19,
+    0xBFF921FB54442D18,
+    0x3FF921FB54442D16,
+    0x400921FB54442D18,
+    0x7FEFFFFFFFFFFFFF,
+    0xFFEFFFFFFFFFFFFF,
+    0x7FF0000000000000,
+    0xFFF0000000000000,
+    0x7FF8000000000000,
+    0xFFF8000000000001,
+];
 
 pub fn all() {
     function(b"exp", 0, 16);
@@ -33,7 +73,7 @@ fn answer(which: u32, x: f64) -> f64 {
 }
 
 fn specials(name: &[u8], which: u32) {
-    let table = arguments::SPECIAL;
+    let table = SPECIAL;
     for i in 0..36 {
         print::text(name);
         line(b" special", which, table[i]);

@@ -1,8 +1,8 @@
 // The constants, the grid and tan along the grid.
-use crate::digest::bits_of;
-use crate::digest::of_bits;
-use crate::digest::with;
-use crate::print;
+use cases::digest::bits_of;
+use cases::digest::of_bits;
+use cases::digest::with;
+use cases::print;
 
 pub fn all() {
     constants();

@@ -1,7 +1,7 @@
 // The minimum, and the first index at or below a bound.
-use crate::digest::bits_of;
-use crate::digest::of_bits;
-use crate::print;
+use cases::digest::bits_of;
+use cases::digest::of_bits;
+use cases::print;
 use vectors::field_vector::Position;
 
 const BOUNDS: [u64; 7] = [

@@ -1,12 +1,9 @@
 // Runs the cases of the crate vectors and prints what `oracle vectors` prints for them.
-mod arguments;
-mod digest;
 mod exp;
 mod functions;
 mod grid;
 mod lists;
 mod on_vector;
-mod print;
 mod refusals;
 mod stencils;
 

@@ -1,7 +1,7 @@
 // Every kind of vector at each level, and at level 5 an infinity at each point.
-use crate::arguments;
 use crate::lists;
 use crate::stencils;
+use cases::arguments;
 
 pub fn all() {
     levels();

@@ -1,9 +1,9 @@
 // What the calls answer where a level, a length or an index is refused, and that memory stays as it was.
-use crate::arguments;
-use crate::digest::digest;
 use crate::grid;
-use crate::print;
 use crate::stencils;
+use cases::arguments;
+use cases::digest::digest;
+use cases::print;
 use vectors::answer::Answer;
 
 pub fn all() {

@@ -1,6 +1,6 @@
 // The stencils.
-use crate::digest::digest;
-use crate::print;
+use cases::digest::digest;
+use cases::print;
 use vectors::answer::Answer;
 
 pub fn print(level: u32, kind: u32, values: &[f64]) {

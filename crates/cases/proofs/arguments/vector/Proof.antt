@@ -3,8 +3,8 @@ use mathlib.Core.Path.{_≡_}
 use Prim.Native.Nat.{_≤_, _-_}
 use borrow.Author.Needs.{needs}
 use lib.ListN.{length}
-use Rattle.vectors_cases.proofs.arguments.vector.Statement.{statement}
-use Rattle.vectors_cases.proofs.arguments.vector.Tie as tie
+use Rattle.cases.proofs.arguments.vector.Statement.{statement}
+use Rattle.cases.proofs.arguments.vector.Tie as tie
 
 abbrev Inv-loop : tie.InvT-loop
 Inv-loop level kind values₀ s₀ i₀ i-end values s i = (i ≤ i-end) × (i-end ≡ length values₀) × (length values ≡ i-end)

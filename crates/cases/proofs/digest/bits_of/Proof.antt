@@ -3,8 +3,8 @@ use mathlib.Core.Path.{_≡_, subst}
 use mathlib.Core.Bool.{false, not}
 use lib.Dec.{T}
 use lib.Ieee.{Float, nan, inf, fin, ne, isNan}
-use Rattle.vectors_cases.proofs.digest.bits_of.Statement.{statement}
-use Rattle.vectors_cases.proofs.digest.bits_of.Tie as tie
+use Rattle.cases.proofs.digest.bits_of.Statement.{statement}
+use Rattle.cases.proofs.digest.bits_of.Tie as tie
 
 no-nan : (x : Float) → ne x x ≡ false → T (not (isNan x))
 unfolding ne isNan

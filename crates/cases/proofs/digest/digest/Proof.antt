@@ -3,8 +3,8 @@ use mathlib.Core.Path.{_≡_}
 use Prim.Native.Nat.{_≤_, _-_}
 use borrow.Author.Needs.{needs}
 use lib.ListN.{length}
-use Rattle.vectors_cases.proofs.digest.digest.Statement.{statement}
-use Rattle.vectors_cases.proofs.digest.digest.Tie as tie
+use Rattle.cases.proofs.digest.digest.Statement.{statement}
+use Rattle.cases.proofs.digest.digest.Tie as tie
 
 abbrev Inv-loop : tie.InvT-loop
 Inv-loop values d₀ i₀ i-end d i = (i ≤ i-end) × (i-end ≡ length values)

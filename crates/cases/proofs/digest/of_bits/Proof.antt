@@ -6,8 +6,8 @@ use borrow.Author.Tests.{le-ltb}
 use lib.Dec.{T}
 use lib.Ieee.{binary64, nanBits}
 use lib.Ieee.Bits.{nanBits-above}
-use Rattle.vectors_cases.proofs.digest.of_bits.Statement.{statement}
-use Rattle.vectors_cases.proofs.digest.of_bits.Tie as tie
+use Rattle.cases.proofs.digest.of_bits.Statement.{statement}
+use Rattle.cases.proofs.digest.of_bits.Tie as tie
 
 not-above : (b : ℕ) → b % 9223372036854775808 ≤ 9218868437227405312 → T (not (nanBits binary64 b))
 not-above b h = subst (λ (z : Bool). T (not z)) (sym (nanBits-above binary64 b ∙ le-ltb 9218868437227405312 (b % 9223372036854775808) h)) tt

@@ -9,8 +9,13 @@ fn next(s: u64) -> u64 {
 }
 
 /// 64 bits of state s and the state after it.
-pub fn pattern(s: u64) -> u64 {
+fn pattern(s: u64) -> u64 {
     (s / 256) * (1 << 32) + next(s) / 256
+}
+
+/// A whole number below 2^32: the low half of the pattern.
+pub fn draw(s: u64) -> u64 {
+    next(s) / 256
 }
 
 /// The state after the two that `pattern` uses.

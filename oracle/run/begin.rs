@@ -1,24 +1,19 @@
 //! What begin answers, and what it leaves. crates/run_cases/src/begin.rt makes the calls.
 use super::memories::{Memories, FRAMES, STATE, WORK};
-use super::plain::{has_nan, Machine};
+use super::plain::Machine;
 use super::settings::{least_interval, Settings};
-use crate::domain::constraints::Constraints;
-use crate::domain::field_vector::FieldVector;
+use crate::digest::of_bits;
 use crate::domain::grid::Grid;
 use crate::domain::output_config::OutputConfig;
 use crate::domain::simulation_config::SimulationConfig;
 use crate::domain::simulation_inputs::SimulationInputs;
-use crate::domain::state::State;
-
-const ONE: u64 = 0x3FF0000000000000;
-const TWENTY: u64 = 0x4034000000000000;
-const NAN: u64 = 0x7FF8000000000000;
+use crate::physics::states::{has_nan, state_of};
 
 const LEVELS: [u32; 6] = [4, 17, 261, 0, u32::MAX, 5];
 /// Zeros, -1, -infinity, the least float, NaN, infinity, the largest.
 const INTERVALS: [u64; 8] = [
-    0x0000000000000000, 0x8000000000000000, 0xBFF0000000000000, 0xFFF0000000000000, 0x0000000000000001, NAN, 0x7FF0000000000000,
-    0x7FEFFFFFFFFFFFFF,
+    0x0000000000000000, 0x8000000000000000, 0xBFF0000000000000, 0xFFF0000000000000, 0x0000000000000001, 0x7FF8000000000000,
+    0x7FF0000000000000, 0x7FEFFFFFFFFFFFFF,
 ];
 const DX_LEVELS: [u32; 4] = [6, u32::MAX, 5, 0];
 /// Lengths at level 5, where a state has 264 numbers, work 1,320 and a frame of dx level 5 has 299.
@@ -28,7 +23,7 @@ const LENGTHS: [(usize, usize, usize); 9] = [
 ];
 /// Level and amplitude: NaN, infinities, and at each level the largest whose initial state has no NaN, and the next.
 const AMPLITUDES: [(u32, u64); 12] = [
-    (5, NAN), (5, 0x7FF0000000000000), (5, 0xFFF0000000000000), (5, 0x7FEFFFFFFFFFFFFF), (5, 0x4084E273E543992E),
+    (5, 0x7FF8000000000000), (5, 0x7FF0000000000000), (5, 0xFFF0000000000000), (5, 0x7FEFFFFFFFFFFFFF), (5, 0x4084E273E543992E),
     (5, 0x4084E273E543992F), (6, 0x4085004B631175F5), (6, 0x4085004B631175F6), (7, 0x4085016DCD084AF5),
     (7, 0x4085016DCD084AF6), (8, 0x4085017E590A6FC9), (8, 0x4085017E590A6FCA),
 ];
@@ -36,30 +31,32 @@ const AMPLITUDES: [(u32, u64); 12] = [
 pub fn print() {
     let all = (STATE, WORK, FRAMES);
     for level in LEVELS {
-        line(&format!("level {level}"), &Settings::new(TWENTY, level, ONE, ONE, 5, false), all);
+        line(&format!("level {level}"), &Settings::new(20.0, level, 1.0, 1.0, 5, false), all);
     }
     for level in 5..=16 {
-        for interval in [least_interval(level) - 1, least_interval(level)] {
-            line(&format!("level {level} interval {interval:016x}"), &Settings::new(TWENTY, level, ONE, interval, 5, false), all);
+        let least = least_interval(level).to_bits();
+        for interval in [least - 1, least] {
+            let case = format!("level {level} interval {interval:016x}");
+            line(&case, &Settings::new(20.0, level, 1.0, of_bits(interval), 5, false), all);
         }
     }
     for interval in INTERVALS {
-        line(&format!("interval {interval:016x}"), &Settings::new(TWENTY, 5, ONE, interval, 5, false), all);
+        line(&format!("interval {interval:016x}"), &Settings::new(20.0, 5, 1.0, of_bits(interval), 5, false), all);
     }
     for dx_level in DX_LEVELS {
-        line(&format!("dx {dx_level}"), &Settings::new(TWENTY, 5, ONE, ONE, dx_level, false), all);
+        line(&format!("dx {dx_level}"), &Settings::new(20.0, 5, 1.0, 1.0, dx_level, false), all);
     }
     for lengths in LENGTHS {
         for skip in [false, true] {
             let (state, work, frames) = lengths;
             let case = format!("lent {state} {work} {frames} skip {}", skip as u32);
-            line(&case, &Settings::new(TWENTY, 5, ONE, ONE, 5, skip), lengths);
+            line(&case, &Settings::new(20.0, 5, 1.0, 1.0, 5, skip), lengths);
         }
     }
     for (level, amplitude) in AMPLITUDES {
         for skip in [false, true] {
             let case = format!("level {level} amplitude {amplitude:016x} skip {}", skip as u32);
-            line(&case, &Settings::new(amplitude, level, ONE, ONE, 0, skip), all);
+            line(&case, &Settings::new(of_bits(amplitude), level, 1.0, 1.0, 0, skip), all);
         }
     }
     (0..7).for_each(order);
@@ -68,10 +65,10 @@ pub fn print() {
 /// All faults at once, then one fewer at a time: the first of 5, 6, 7, 11, 12, 13 is answered.
 fn order(k: u32) {
     let s = Settings::new(
-        if k < 6 { NAN } else { TWENTY },
+        if k < 6 { f64::NAN } else { 20.0 },
         if k < 1 { 4 } else { 5 },
-        ONE,
-        if k < 2 { 0 } else { ONE },
+        1.0,
+        if k < 2 { 0.0 } else { 1.0 },
         if k < 3 { 6 } else { 5 },
         false,
     );
@@ -89,7 +86,7 @@ fn line(case: &str, s: &Settings, lengths: (usize, usize, usize)) {
     }
 }
 
-fn begin(s: &Settings, (state, work, frames): (usize, usize, usize)) -> Result<Machine, u32> {
+pub fn begin(s: &Settings, (state, work, frames): (usize, usize, usize)) -> Result<Machine, u32> {
     if let Some(number) = fault(s) {
         return Err(number);
     }
@@ -115,17 +112,10 @@ pub fn fault(s: &Settings) -> Option<u32> {
             max_time: s.max_time,
         },
         out_config: OutputConfig { dt: s.interval, dx_level: s.dx_level, skip_state_output: s.skip },
-        initial_state: no_state(),
+        // `validate` does not look at the state
+        initial_state: state_of(0.0, Default::default()),
     };
     let message = inputs.validate().err()?;
     let numbers = [("Level of discretization", 5), ("Output dt", 6), ("Output dx level", 7)];
     numbers.iter().find(|(start, _)| message.starts_with(start)).map(|(_, number)| *number)
-}
-
-/// `validate` does not look at the state.
-fn no_state() -> State {
-    let none = || FieldVector::zeros(0);
-    let constraints =
-        Constraints { energy_density: none(), mass: none(), radial_factor: none(), lapse: none(), char_speed: none() };
-    State { time: 0.0, field: none(), conj_momentum: none(), alternate_mass: none(), constraints }
 }

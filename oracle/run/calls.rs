@@ -3,7 +3,7 @@ use super::lines::reply;
 use super::memories::{Memories, FRAMES};
 use super::settings::{Case, Settings};
 use super::tally::{Call, Reply, Tally};
-use crate::arguments::{after, pattern};
+use crate::arguments::{after, draw};
 use crate::digest::{bits_of, mixed};
 
 /// Cases whose runs end: timeout, collapse, broken, at levels 5 to 8.
@@ -18,7 +18,7 @@ pub fn print(cases: &[Case]) {
         println!("case {k} begin {} {}", session.tally.machine.frames.len(), session.memories.line(&s, true));
         let mut p = mixed(37, k as u64);
         for _ in 0..TURNS {
-            session.make(drawn(&s, cases[k].attempts, pattern(p)));
+            session.make(drawn(&s, cases[k].attempts, draw(p)));
             p = after(p);
         }
         session.limits();
@@ -58,7 +58,7 @@ fn exact(s: &Settings, budget: u32) -> Call {
     Call { budget, state: 8 * s.n(), work: 40 * s.n(), frames: FRAMES }
 }
 
-/// A call by the low 32 bits of a pattern.
+/// A call by a draw.
 fn drawn(s: &Settings, attempts: u32, p: u64) -> Call {
     let budget = match p % 8 {
         0 => 0,

@@ -6,8 +6,7 @@ use super::plain::Machine;
 use super::settings::Settings;
 use super::tally::{Call, Reply, Tally};
 use crate::digest::{bits_of, of_bits};
-use crate::domain::field_vector::FieldVector;
-use crate::domain::state::State;
+use crate::physics::states::state_of;
 
 /// Which of the eight vectors, entry, bits of what is put there.
 const STATES: [(usize, usize, u64); 20] = [
@@ -30,8 +29,10 @@ const RECORDS: [(u32, u64, u32); 18] = [
 pub fn print() {
     for (vector, i, bits) in STATES {
         let (mut tally, mut memories) = ran();
-        memories.state[vector * tally.settings.n() + i] = of_bits(bits);
-        vector_of(&mut tally.machine.state, vector)[i] = of_bits(bits);
+        let n = tally.settings.n();
+        memories.state[vector * n + i] = of_bits(bits);
+        let vectors = std::array::from_fn(|v| memories.state[v * n..(v + 1) * n].to_vec());
+        tally.machine.state = state_of(tally.machine.state.time, vectors);
         line(&format!("state {vector} {i} {bits:016x}"), tally, memories, 2);
     }
     for (field, value, budget) in RECORDS {
@@ -43,27 +44,13 @@ pub fn print() {
 
 /// Amplitude 20 after three attempts: a frame at the start, none since.
 fn ran() -> (Tally, Memories) {
-    let s = Settings::new(0x4034000000000000, 5, 0x4010000000000000, 0x3FD0000000000000, 5, false);
+    let s = Settings::new(20.0, 5, 4.0, 0.25, 5, false);
     let mut tally = Tally::new(s);
     let mut memories = Memories::new();
     memories.store(&tally.machine, 1);
     tally.machine = Machine::after(&s, 3);
     memories.store(&tally.machine, 0);
     (tally, memories)
-}
-
-fn vector_of(state: &mut State, vector: usize) -> &mut FieldVector {
-    let c = &mut state.constraints;
-    match vector {
-        0 => &mut state.field,
-        1 => &mut state.conj_momentum,
-        2 => &mut state.alternate_mass,
-        3 => &mut c.energy_density,
-        4 => &mut c.mass,
-        5 => &mut c.radial_factor,
-        6 => &mut c.lapse,
-        _ => &mut c.char_speed,
-    }
 }
 
 fn forge(machine: &mut Machine, s: &mut Settings, field: u32, value: u64) {

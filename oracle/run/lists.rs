@@ -1,11 +1,12 @@
 //! Every case with several lists of budgets: each line has what the plain run gives for the whole of the attempts, and
 //! by the tally how many calls there were and what they answered. crates/run_cases/src/lists.rt makes the calls.
+use super::begin::begin;
 use super::lines::{mass, name};
-use super::memories::FRAMES;
-use super::plain::{vectors, Machine};
+use super::memories::{FRAMES, STATE, WORK};
+use super::plain::{numbers, Machine};
 use super::settings::{Case, Settings};
 use super::tally::{Call, Reply, Tally};
-use crate::arguments::{after, pattern};
+use crate::arguments::{after, draw};
 use crate::digest::{bits_of, digest, mixed, with};
 
 const LISTS: u32 = 6;
@@ -13,6 +14,7 @@ const LISTS: u32 = 6;
 const CUTS: u32 = 8;
 
 pub fn print(k: usize, case: &Case) {
+    assert!(begin(&case.settings, (STATE, WORK, FRAMES)).is_ok(), "case {k} is refused");
     let machine = Machine::after(&case.settings, case.attempts);
     for list in 0..LISTS {
         let counts = tallied(k, case, list, &machine);
@@ -22,7 +24,7 @@ pub fn print(k: usize, case: &Case) {
 
 /// Outcome, steps, time and mass; the digest of the state; the joined frames and their digest.
 fn plain(m: &Machine) -> String {
-    let state = vectors(&m.state).iter().fold(with(1, m.state.time), |d, &x| with(d, x));
+    let state = numbers(&m.state).iter().fold(with(1, m.state.time), |d, &x| with(d, x));
     let frames = digest(m.frames.iter().flatten());
     let (o, time) = (m.outcome(), bits_of(m.state.time));
     let numbers = format!("state {state} frames {} {frames}", m.frames.len());
@@ -64,7 +66,7 @@ fn cuts(seed: u64, attempts: u32) -> Vec<u32> {
     let (mut s, mut left) = (seed, attempts);
     let mut budgets = Vec::new();
     for turn in 0..CUTS {
-        let drawn = (pattern(s) % (attempts as u64 / 3 + 2)) as u32;
+        let drawn = (draw(s) % (attempts as u64 / 3 + 2)) as u32;
         let budget = if turn + 1 == CUTS { left } else { drawn.min(left) };
         budgets.push(budget);
         left -= budget;

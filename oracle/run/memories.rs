@@ -1,5 +1,5 @@
 //! What stands in the three memories after a call. A call gets the first numbers of each; the generator filled them.
-use super::plain::{vectors, Machine};
+use super::plain::{numbers, Machine};
 use super::settings::Settings;
 use crate::arguments::{list, Range};
 use crate::digest::digest;
@@ -22,7 +22,7 @@ impl Memories {
 
     /// After a call that was not refused: its last state, and from the first number on its frames, the run's last ones.
     pub fn store(&mut self, machine: &Machine, frames: usize) {
-        put(&mut self.state, &vectors(&machine.state));
+        put(&mut self.state, &numbers(&machine.state));
         put(&mut self.frames, &machine.frames[machine.frames.len() - frames..].concat());
     }
 

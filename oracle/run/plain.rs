@@ -1,11 +1,11 @@
 //! 01's plain run: its machine, over the published initial state, step, clock and frames.
 use super::settings::Settings;
-use crate::domain::constraints::Constraints;
 use crate::domain::grid::Grid;
 use crate::domain::output_config::OutputConfig;
 use crate::domain::simulation_config::SimulationConfig;
 use crate::domain::state::State;
 use crate::domain::state_output::StateOutput;
+use crate::physics::states::{has_nan, vectors};
 use crate::use_cases::adaptive_time_step::TimeStep;
 use crate::use_cases::integration::rk4_step;
 use crate::use_cases::state_builder::build_initial_state;
@@ -102,15 +102,8 @@ pub fn configs(s: &Settings) -> (SimulationConfig, OutputConfig) {
 }
 
 /// The eight vectors, one after another as in state memory.
-pub fn vectors(state: &State) -> Vec<f64> {
-    let Constraints { energy_density, mass, radial_factor, lapse, char_speed } = &state.constraints;
-    let fields = [&state.field, &state.conj_momentum, &state.alternate_mass];
-    let constraints = [energy_density, mass, radial_factor, lapse, char_speed];
-    fields.into_iter().chain(constraints).flat_map(|v| v.iter().copied()).collect()
-}
-
-pub fn has_nan(state: &State) -> bool {
-    state.time.is_nan() || vectors(state).iter().any(|x| x.is_nan())
+pub fn numbers(state: &State) -> Vec<f64> {
+    vectors(state).iter().flat_map(|v| v.iter().copied()).collect()
 }
 
 /// A frame's numbers, in the field order of `StateOutput`.

@@ -13,13 +13,18 @@ fn pattern(s: u64) -> u64 {
     (s / 256) * (1 << 32) + next(s) / 256
 }
 
+/// A whole number below 2^32: the low half of the pattern.
+pub fn draw(s: u64) -> u64 {
+    next(s) / 256
+}
+
 /// The state after the two that `pattern` uses.
-fn after(s: u64) -> u64 {
+pub fn after(s: u64) -> u64 {
     next(next(s))
 }
 
 /// A number from -1 up to 1, from the 52 low bits of the pattern.
-fn unit(s: u64) -> f64 {
+pub fn unit(s: u64) -> f64 {
     of_bits(0x3FF0000000000000 + pattern(s) % (1 << 52)) * 2.0 - 3.0
 }
 

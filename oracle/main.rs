@@ -5,6 +5,7 @@ mod domain;
 mod mantissas;
 mod ours;
 mod physics;
+mod run;
 mod use_cases;
 mod vectors;
 
@@ -13,8 +14,9 @@ fn main() {
     match name.as_str() {
         "vectors" => vectors::print(),
         "physics" => physics::print(),
+        "run" => run::print(),
         _ => {
-            eprintln!("usage: oracle vectors | physics");
+            eprintln!("usage: oracle vectors | physics | run");
             std::process::exit(2);
         }
     }

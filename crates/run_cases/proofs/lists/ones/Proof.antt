@@ -1,0 +1,18 @@
+-- `ones` is safe and ends: the loop's number stays within its range. Assumes nothing.
+use mathlib.Core.Path.{_≡_}
+use Prim.Native.Nat.{_≤_, _-_}
+use borrow.Author.Needs.{needs}
+use lib.ListN.{length}
+use Rattle.run_cases.proofs.lists.ones.Statement.{statement}
+use Rattle.run_cases.proofs.lists.ones.Tie as tie
+
+abbrev Inv-loop : tie.InvT-loop
+Inv-loop attempts lent state₀ work₀ frames₀ now₀ i₀ state work frames now i = (i ≤ attempts) × (length state ≡ length state₀) × (length work ≡ length work₀) × (length frames ≡ length frames₀)
+
+abbrev μ-loop : tie.MeasureT-loop
+μ-loop attempts lent state₀ work₀ frames₀ now₀ i₀ state work frames now i = attempts - i
+
+pub ones-spec : {M : Type 1} → statement M
+ones-spec =
+    tie.close
+    (tie.spec Inv-loop μ-loop (λ c. search needs) (λ c κs. search needs) (λ c. search needs) (λ c. search needs) (λ c. search needs) (λ c. search needs) (λ c. search needs) (λ c. search needs) (λ c. search needs))

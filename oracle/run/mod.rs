@@ -1,0 +1,22 @@
+//! Cases of the crate run. crates/run_cases prints the same lines.
+mod begin;
+mod calls;
+mod forged;
+mod lines;
+mod lists;
+mod memories;
+mod plain;
+mod settings;
+mod tally;
+mod whole;
+
+pub fn print() {
+    let cases = settings::cases();
+    for (k, case) in cases.iter().enumerate() {
+        lists::print(k, case);
+    }
+    whole::print(&cases);
+    calls::print(&cases);
+    begin::print();
+    forged::print();
+}

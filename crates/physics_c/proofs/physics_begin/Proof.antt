@@ -1,57 +1,48 @@
+-- `physics_begin` meets its contract.
+use mathlib.Core.Path.{refl, sym, ap, _∙_}
 use borrow.Author.Needs.{needs}
+use lib.ListN.{length}
+use Rattle.vectors.specs.Answer.{numberOf}
+use Rattle.physics.specs.InitialState.{initialStateOf}
+use Rattle.physics.specs.WorkAfter.{Made}
+use Rattle.physics.specs.WorkLaws.{RoomToStep, room-to-step}
+use Rattle.physics_c.specs.Kept.{built, still, stored}
 use Rattle.physics_c.proofs.physics_begin.Statement.{statement}
 use Rattle.physics_c.proofs.physics_begin.Tie as tie
-use Rattle.physics_c.proofs.physics_begin.Reads as reads
-use Rattle.physics_c.proofs.physics_begin.Lts as lts
-use Rattle.physics.proofs.state_builder.build_initial_state.Reads as build-initial-state-reads
-use Rattle.physics_c.proofs.checked_room.Reads as checked-room-reads
-use Rattle.physics_c.proofs.keep.Reads as keep-reads
 
-checked-room-requires : tie.Need-checked-room-requires
-checked-room-requires c κs = search needs
-
-enum-told : tie.Need-enum-told
-enum-told c = search needs
-
-build-initial-state-requires : tie.Need-build-initial-state-requires
-build-initial-state-requires c κs = search needs
+-- where the call is accepted, the memories have room
+room : (c : tie.After-enum-told) → let a = c .before .before .before .before .before .args in RoomToStep (a .level) (length (a .state .now)) (length (a .work .now))
+room c = room-to-step _ _ _ (sym (ap numberOf (c .enum-told .given .1)) ∙ c .before .before .checked-room .ensures)
 
 keep-requires : tie.Need-keep-requires
-keep-requires c κs = search needs
-
-enum-told-2 : tie.Need-enum-told-2
-enum-told-2 c = search needs
-
-enum-told-3 : tie.Need-enum-told-3
-enum-told-3 c = search needs
-
-same-length : tie.Need-same-length
-same-length c = search needs
-
-same-length-2 : tie.Need-same-length-2
-same-length-2 c = search needs
+keep-requires c κs =
+    let build = c .before .before .before .before in
+    let fits = room (build .before .before) in
+    let e = build .build-initial-state .ensures in
+    still fits (built _ _ _ _ _ _ fits (e .0) (e .1))
 
 returns : tie.Need-returns
-returns c = search needs
-
-returns-2 : tie.Need-returns-2
-returns-2 c = search needs
-
-returns-3 : tie.Need-returns-3
-returns-3 c = search needs
+returns c =
+    let keep = c .before .before in
+    let build = keep .before .before .before .before .before in
+    let told = build .before .before in
+    let fits = room told in
+    let e = build .build-initial-state .ensures in
+    let made = built _ _ _ _ _ _ fits (e .0) (e .1) in
+    (sym (ap numberOf (told .enum-told .given .1)) ∙ told .before .before .checked-room .ensures, keep .keep .ensures ∙ stored _ made, made)
 
 pub physics-begin-spec : {M : Type 1} → statement M
 physics-begin-spec =
     tie.close
     (tie.spec
-    checked-room-requires
-    enum-told
-    build-initial-state-requires
+    (λ c κs. search needs)
+    (λ c. search needs)
+    (λ c κs. search needs)
     keep-requires
-    enum-told-2
-    enum-told-3
-    same-length
-    same-length-2
+    (λ c. search needs)
+    (λ c. search needs)
+    (λ c. search needs)
+    (λ c. search needs)
     returns
-    returns-2
-    returns-3)
+    (λ c. (sym (ap numberOf (c .enum-told2 .given .1)) ∙ c .before .before .checked-room .ensures, refl, refl))
+    (λ c. (sym (ap numberOf (c .enum-told3 .given .1)) ∙ c .before .before .checked-room .ensures, refl, refl)))

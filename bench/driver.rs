@@ -3,13 +3,14 @@
 mod domain;
 mod mantissas;
 mod ours;
+mod samples;
 mod use_cases;
 
 use domain::field_vector::FieldVector;
 use domain::grid::Grid;
+use samples::{median, now};
 use std::cell::RefCell;
 use std::hint::black_box;
-use std::time::Instant;
 
 extern "C" {
     fn vectors_exp_all(values: *mut f64, length: usize);
@@ -22,7 +23,7 @@ const SAMPLES: usize = 41;
 const VALUES: usize = 1_000_000;
 
 fn main() {
-    println!("ns per value, median of {SAMPLES} interleaved samples; in brackets the library's time over the other's");
+    println!("ns of processor time per value, median of {SAMPLES} interleaved samples; in brackets the library's time over the other's");
     for length in [129, 8193] {
         exp(length);
     }
@@ -129,12 +130,12 @@ fn compare(name: &str, values: usize, functions: &mut [Timed]) {
     for _ in 0..SAMPLES {
         let mut digests = Vec::new();
         for (k, (_, f)) in functions.iter_mut().enumerate() {
-            let start = Instant::now();
+            let start = now();
             let mut d = 0;
             for _ in 0..calls {
                 d = black_box(f());
             }
-            times[k].push(start.elapsed().as_nanos() as f64 / (calls * values) as f64);
+            times[k].push((now() - start) / (calls * values) as f64);
             digests.push(d);
         }
         assert!(digests.iter().all(|&d| d == digests[0]), "{name}: the answers differ");
@@ -145,9 +146,4 @@ fn compare(name: &str, values: usize, functions: &mut [Timed]) {
         print!("; {label} {:.2} ({:.2})", medians[k], medians[0] / medians[k]);
     }
     println!();
-}
-
-fn median(mut times: Vec<f64>) -> f64 {
-    times.sort_by(f64::total_cmp);
-    times[times.len() / 2]
 }

@@ -8,12 +8,13 @@ mod library;
 mod mantissas;
 mod ours;
 mod physics;
+mod samples;
 mod use_cases;
 
 use library::Memories;
 use physics::states::{base, config};
+use samples::{median, now};
 use std::hint::black_box;
-use std::time::Instant;
 
 const AMPLITUDE: f64 = 10.0;
 /// Samples of each; an odd number, so that the median is one of them.
@@ -24,14 +25,14 @@ const POINTS: usize = 1_000_000;
 const STEPS: usize = 100;
 
 fn main() {
-    println!("a step with constant delta, amplitude {AMPLITUDE}, median of {SAMPLES} interleaved samples; ns per point and step;");
-    println!("in brackets how many times faster the library is");
+    println!("a step with constant delta, amplitude {AMPLITUDE}, median of {SAMPLES} interleaved samples; processor time;");
+    println!("ns per point and step; in brackets how many times faster the library is");
     for level in [5, 7, 10, 13, 16] {
         compare(level);
     }
 }
 
-/// Makes the given number of steps from the initial state and answers three bits patterns of the last field, mixed.
+/// Makes the given number of steps from the initial state and answers something of the last field.
 type Run<'a> = Box<dyn FnMut(usize) -> u64 + 'a>;
 
 fn compare(level: u32) {
@@ -43,9 +44,9 @@ fn compare(level: u32) {
     for _ in 0..SAMPLES {
         let mut answers = Vec::new();
         for (k, run) in timed.iter_mut().enumerate() {
-            let start = Instant::now();
+            let start = now();
             let answer = (0..runs).map(|_| black_box(run(steps))).last();
-            times[k].push(start.elapsed().as_nanos() as f64 / (runs * steps) as f64);
+            times[k].push((now() - start) / (runs * steps) as f64);
             answers.push(answer);
         }
         assert!(answers[0] == answers[1], "level {level}: library and Rust differ");
@@ -105,9 +106,4 @@ fn mixed(values: &[f64]) -> u64 {
 
 fn speed(ns: f64, n: usize) -> String {
     format!("{:.0} steps/s, {:.1} ns", 1e9 / ns, ns / n as f64)
-}
-
-fn median(mut times: Vec<f64>) -> f64 {
-    times.sort_by(f64::total_cmp);
-    times[times.len() / 2]
 }

@@ -7,13 +7,12 @@ ghost use Rattle.vectors.specs.Answer.{numberOf, leftAt};
 ghost use Rattle.vectors.specs.Fault.{faultOf};
 ghost use Rattle.vectors.specs.Grid.{pointsOf};
 ghost use Rattle.vectors.specs.Memory.{part, put};
-ghost use Rattle.vectors.specs.Constants.{whole};
 ghost use Rattle.physics.specs.InitialState.{initialStateOf};
-ghost use Rattle.physics.specs.Rk4.{rk4Of};
 ghost use Rattle.physics.specs.State.{layOut};
-ghost use Rattle.physics.specs.Stepped.{roomToStep, stateIn};
+ghost use Rattle.physics.specs.Stepped.{roomToStep};
 ghost use Rattle.physics.specs.WorkAfter.{WorkAfter};
 ghost use Rattle.physics.specs.WorkLaws.{RoomToStep};
+ghost use Rattle.physics_c.specs.Next.{nextOf};
 use physics::integration::Stepped;
 use physics::integration::rk4_step;
 use physics::state::store;
@@ -51,8 +50,8 @@ pub extern "C" fn physics_begin(
 #[no_mangle]
 pub extern "C" fn physics_step(level: u32, delta: f64, state: &mut [f64], work: &mut [f64]) -> u32
     ensures { λ r. ⌜ (r ≡ faultOf level (roomToStep level (length (now (state .entry))) (length (now (work .entry)))))
-        × (now (state .exit) ≡ leftAt r (put 0 (layOut (rk4Of level delta (stateIn level (whole 0) (now (state .entry))))) (now (state .entry))) (now (state .entry)))
-        × WorkAfter r level (rk4Of level delta (stateIn level (whole 0) (now (state .entry)))) (now (work .entry)) (now (work .exit)) ⌝ }
+        × (now (state .exit) ≡ leftAt r (put 0 (layOut (nextOf level delta (now (state .entry)))) (now (state .entry))) (now (state .entry)))
+        × WorkAfter r level (nextOf level delta (now (state .entry))) (now (work .entry)) (now (work .exit)) ⌝ }
 {
     let stepped = rk4_step(level, 0.0, delta, state, work);
     match stepped {

@@ -1,0 +1,11 @@
+-- The state that `physics_step` makes. Definitions only.
+use mathlib.Core.List.{List}
+use Prim.Native.Nat.{ℕ}
+use lib.Ieee.{Float, binary64, ofBits}
+use Rattle.physics.specs.Rk4.{rk4Of}
+use Rattle.physics.specs.State.{State}
+use Rattle.physics.specs.Stepped.{stateIn}
+
+-- delta after the state in state memory, which has no time: it is taken as 0
+abbrev pub nextOf : ℕ → Float → List Float → State
+nextOf level delta state = rk4Of level delta (stateIn level (ofBits binary64 0) state)

@@ -155,7 +155,7 @@ fn lent_by(p: u32, s: Settings) -> Lent {
     Lent {
         state: state_size(s.level) - 1 + more(p / 65536 % 8),
         work: work_size(s.level) - 1 + more(p / 524288 % 8),
-        frames: room(p / 4194304 % 8, frame_size(s.dx)),
+        frames: room(p / 4194304 % 8, frame_size(s.dx_level)),
     }
 }
 

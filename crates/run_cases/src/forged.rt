@@ -205,18 +205,32 @@ fn forged(r: Record, field: u32, value: u64) -> Record {
 fn resettled(s: Settings, field: u32, value: u64) -> Settings {
     let low = (value % 4294967296) as u32;
     match field {
-        3 => settings(s.amplitude, low, s.tmax, s.interval, s.dx, s.skip),
-        4 => settings(s.amplitude, s.level, s.tmax, of_bits(value), s.dx, s.skip),
-        5 => settings(s.amplitude, s.level, s.tmax, s.interval, low, s.skip),
+        3 => settings(s.amplitude, low, s.max_time, s.interval, s.dx_level, s.skip),
+        4 => settings(
+            s.amplitude,
+            s.level,
+            s.max_time,
+            of_bits(value),
+            s.dx_level,
+            s.skip,
+        ),
+        5 => settings(s.amplitude, s.level, s.max_time, s.interval, low, s.skip),
         6 => settings(
             s.amplitude,
             s.level,
             of_bits(value),
             s.interval,
-            s.dx,
+            s.dx_level,
             s.skip,
         ),
-        _ => settings(s.amplitude, s.level, s.tmax, s.interval, s.dx, value == 1),
+        _ => settings(
+            s.amplitude,
+            s.level,
+            s.max_time,
+            s.interval,
+            s.dx_level,
+            value == 1,
+        ),
     }
 }
 

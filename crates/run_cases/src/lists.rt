@@ -218,9 +218,9 @@ fn more_of(list: u32) -> usize
 // The frame memory of a list; a skipped run needs none.
 fn room(s: Settings, list: u32) -> usize {
     if s.skip {
-        return room_skipped(frame_size(s.dx), list);
+        return room_skipped(frame_size(s.dx_level), list);
     }
-    room_framed(frame_size(s.dx), list)
+    room_framed(frame_size(s.dx_level), list)
 }
 
 fn room_skipped(size: usize, list: u32) -> usize

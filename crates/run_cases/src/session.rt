@@ -36,7 +36,7 @@ pub fn begin(
             record,
             Answer::Spent(count),
             count,
-            joined(1, frames, count, frame_size(s.dx)),
+            joined(1, frames, count, frame_size(s.dx_level)),
         ),
         Begun::Refused(number) => started(no_record(s), Answer::Refused(number), 0, 1),
     }
@@ -107,7 +107,7 @@ pub fn advance(
         record: next,
         answer: answer,
         frames: wrapping_add_u64(z.frames, count as u64),
-        digest: joined(z.digest, frames, count, frame_size(s.dx)),
+        digest: joined(z.digest, frames, count, frame_size(s.dx_level)),
         calls: wrapping_add_u64(z.calls, 1),
         full: wrapping_add_u64(z.full, is_full(answer)),
         refused: wrapping_add_u64(z.refused, is_refused(answer)),

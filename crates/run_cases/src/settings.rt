@@ -85,14 +85,14 @@ fn third(k: u32) -> Case {
 fn of(
     amplitude: f64,
     level: u32,
-    tmax: f64,
+    max_time: f64,
     interval: f64,
-    dx: u32,
+    dx_level: u32,
     skip: bool,
     attempts: u32,
 ) -> Case {
     Case {
-        settings: settings(amplitude, level, tmax, interval, dx, skip),
+        settings: settings(amplitude, level, max_time, interval, dx_level, skip),
         attempts: attempts,
     }
 }
@@ -100,17 +100,17 @@ fn of(
 pub fn settings(
     amplitude: f64,
     level: u32,
-    tmax: f64,
+    max_time: f64,
     interval: f64,
-    dx: u32,
+    dx_level: u32,
     skip: bool,
 ) -> Settings {
     Settings {
         amplitude: amplitude,
         level: level,
-        tmax: tmax,
+        max_time: max_time,
         interval: interval,
-        dx: dx,
+        dx_level: dx_level,
         skip: skip,
     }
 }

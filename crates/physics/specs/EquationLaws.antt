@@ -1,24 +1,25 @@
 -- The passes of the equations of motion make the rates that `equationsOf` defines.
 use mathlib.Core.Path.{_≡_, refl, sym, ap, _∙_}
-use mathlib.Core.Bool.{false}
+use mathlib.Core.Bool.{Bool, true, false, cond}
 use mathlib.Core.List.{List}
-use Prim.Native.Nat.{ℕ, _+_, _-_, _*_, _≤_, _<_}
+use Prim.Native.Nat.{ℕ, _+_, _-_, _≤_, _<_}
 use native.Mathlib.Omega.{arith}
 use lib.Dec.{eqb}
 use lib.ListN.{length, take, drop}
-use lib.Ieee.{Float, nan, binary64, div}
+use lib.Ieee.{Float, nan, binary64, div, add}
 use Rattle.vectors.specs.Dissipation.{radialCorrectionOf, halfDissipationAt, halfDissipationOf, dissipationScale, dissipationAt}
 use Rattle.vectors.specs.Grid.{pointsOf, spacingOf, pointOf}
-use Rattle.vectors.specs.Memory.{tab, put}
-use Rattle.vectors.specs.MemoryLaws.{length-tab, Filled, Grown, filled-none, filled-put}
+use Rattle.vectors.specs.Memory.{tab, part, put}
+use Rattle.vectors.specs.MemoryLaws.{length-tab, Filled, Grown, filled-none, filled-put, apart, getD-tab, filled-part, lent, length-part}
 use Rattle.vectors.specs.RowSums.{sum7hollow}
 use Rattle.vectors.specs.Stencil.{diff2Of, diff3At, diff3Row}
 use Rattle.vectors.specs.StencilLaws.{Window, window-left, window-inner, window-right, diff3-by, eight}
 use Rattle.physics.specs.Equations.{dtFieldOf, dtConjMomentumOf, dtAlternateMassOf}
 use Rattle.physics.specs.Constraints.{radialGradientOf}
-use Rattle.physics.specs.Slots.{Slots, slots, upd, known, length-slot, lends, lent-slot}
+use Rattle.physics.specs.Slots.{Slots, upd, known}
 use Rattle.physics.specs.Vector.{at}
-use Rattle.physics.specs.Passes.{Run, halfVal, halfOn, halves, seconds, fieldRateVal, momentumRateVal, massRateVal, rates, derivatives}
+use Rattle.physics.specs.VectorLaws.{tab-same}
+use Rattle.physics.specs.Passes.{Run, halfVal, halfOn, halves, seconds, fieldRateVal, momentumRateVal, massRateVal, rates, derivatives, dampingVal, dampings, fieldRateIn, momentumRateIn, fieldRates, momentumRates, massRates}
 
 -- three runs over the points
 pub runs-put : (n at : ℕ) (g : List Float → ℕ → Float) (w w₁ w₂ w₃ : List Float) → at + n ≤ length w → Grown at 0 3 g w w₁ → Grown at 3 (n - 3) g w₁ w₂ → Grown at (n - 3) n g w₂ w₃
@@ -42,14 +43,30 @@ pub length-halfOn : (c : ℕ → Float) (xs : List Float) → length (halfOn c x
 unfolding halfOn
 length-halfOn c xs = length-tab (length xs) (halfVal c xs)
 
--- a third difference that code takes over a slot k that it lends while it fills slot a, in memory xs that was E
-module _ (n : ℕ) {i : ℕ} {E xs : List Float} where
-  pub third-in : {g : ℕ → Float} {r : Float} (a k e back : ℕ) → Filled (a * n) i g E xs → i < n → eqb k a ≡ false → e ≡ k * n + n → k * n + n ≤ length xs → Window n i back
-      → r ≡ sum7hollow (diff3Row .weights) (take (e - k * n) (drop (k * n) xs)) (i - back) → div binary64 r eight ≡ diff3At (slots n E k) i
-  third-in a k e back F l d p h W q =
-      let is = lends n a k e F (omega arith) d p in
-      let long : length (slots n E k) ≡ n = ap length (sym is) ∙ ap length (lent-slot n k e xs p) ∙ length-slot n k xs h in
-      diff3-by (slots n E k) _ is i back (rw long W) q
+-- a third difference that code takes over a part from from on that it lends while it fills the part from to on, in memory xs that was E
+pub third-in : {i to : ℕ} {E xs : List Float} {g : ℕ → Float} {r : Float} (n from back : ℕ) → Filled to i g E xs → i < n → apart to n from n ≡ true → from + n ≤ length xs → Window n i back
+    → r ≡ sum7hollow (diff3Row .weights) (take (from + n - from) (drop from xs)) (i - back) → div binary64 r eight ≡ diff3At (part from n E) i
+third-in {i} {xs = xs} n from back F l far h W q =
+    let same = filled-part n from n nan F (omega arith) far in
+    let long = ap length (sym same) ∙ length-part from n xs h in
+    diff3-by _ _ (lent from (from + n) n xs refl ∙ same) i back (rw long W) q
+
+-- the passes of the rates
+pub rate-passes : (n : ℕ) (scale : Float) (S : Slots) (k : ℕ) → massRates n (momentumRates n (fieldRates n (dampings n scale S))) k ≡ rates n scale S k
+rate-passes n scale S k = go _ _ _ _ _ _ _ _ field momentum (eqb k 15) (eqb k 14) (eqb k 13)
+  where
+    field : tab n (fieldRateIn (dampings n scale S)) ≡ tab n (fieldRateVal scale (S 7) (S 1) (S 11))
+    field = tab-same n _ _ (λ j l. ap (add binary64 _) (getD-tab n (dampingVal scale (S 11)) j nan l))
+
+    momentum : tab n (momentumRateIn (fieldRates n (dampings n scale S))) ≡ tab n (momentumRateVal (at (S 19)) scale (S 7) (S 9) (S 5) (S 8) (S 6) (S 12))
+    momentum = tab-same n _ _ (λ j l. ap (add binary64 _) (getD-tab n (dampingVal scale (S 12)) j nan l))
+
+    go : (M P F P' F' D D' C : List Float) → F' ≡ F → P' ≡ P → (b15 b14 b13 : Bool)
+        → cond b15 M (cond b14 P' (cond b13 F' (cond b14 D (cond b13 D' C)))) ≡ cond b15 M (cond b14 P (cond b13 F C))
+    go M P F P' F' D D' C e f true b14 b13 = refl
+    go M P F P' F' D D' C e f false true b13 = f
+    go M P F P' F' D D' C e f false false true = e
+    go M P F P' F' D D' C e f false false false = refl
 
 -- the passes of the equations of motion on n points with spacing h, r i the coordinate of point i, c i the radial correction there, gradient that of the field
 unfoldable derivativesOn : ℕ → Float → (ℕ → Float) → (ℕ → Float) → List Float → Slots → Slots

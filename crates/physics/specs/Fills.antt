@@ -44,10 +44,6 @@ module _ {A : Type 0} where
       let e : i + 1 + 1 ≡ i + 2 = omega arith in
       rw e at (grown-step {v = v} (grown-step {v = u} G p x) q y)
 
-  -- a loop after a loop
-  pub grown-both : {at i₀ i j : ℕ} {g : List A → ℕ → A} {xs₀ xs ys : List A} → Grown at i₀ i g xs₀ xs → Grown at i j g xs ys → Grown at i₀ j g xs₀ ys
-  grown-both F G = record { grow = λ E f. G .grow E (F .grow E f) }
-
   -- a part apart from what is written, and an element of it
   pub filled2-part : {a b i : ℕ} {f g : ℕ → A} {E xs : List A} (n c m : ℕ) (d : A) → Filled2 a b i f g E xs → i ≤ n → apart a n c m ≡ true → apart b n c m ≡ true → part c m xs ≡ part c m E
   filled2-part {a} {b} {i} {f} {g} {E} n c m d F h p q =

@@ -163,26 +163,34 @@ momentumRateVal r scale charSpeed second radialFactor first lapse half i =
 abbrev pub massRateVal : (ℕ → Float) → List Float → List Float → List Float → List Float → ℕ → Float
 massRateVal r radialFactor lapse gradient momentum i = massRateAt (r i) (at radialFactor i) (at lapse i) (at gradient i) (at momentum i)
 
-abbrev pub fieldRateIn : Float → Slots → ℕ → Float
-fieldRateIn scale S = fieldRateVal scale (S 7) (S 1) (S 11)
-
-abbrev pub momentumRateIn : Float → Slots → ℕ → Float
-momentumRateIn scale S = momentumRateVal (at (S 19)) scale (S 7) (S 9) (S 5) (S 8) (S 6) (S 12)
-
 abbrev pub massRateIn : Slots → ℕ → Float
 massRateIn S = massRateVal (at (S 19)) (S 5) (S 6) (S 8) (S 1)
-
-abbrev pub fieldRates : ℕ → Float → Slots → Slots
-fieldRates n scale S = upd 13 (tab n (fieldRateIn scale S)) S
-
-abbrev pub momentumRates : ℕ → Float → Slots → Slots
-momentumRates n scale S = upd 14 (tab n (momentumRateIn scale S)) S
 
 abbrev pub massRates : ℕ → Slots → Slots
 massRates n S = upd 15 (tab n (massRateIn S)) S
 
 abbrev pub rates : ℕ → Float → Slots → Slots
-rates n scale S = massRates n (momentumRates n scale (fieldRates n scale S))
+rates n scale S =
+    massRates n (upd 14 (tab n (momentumRateVal (at (S 19)) scale (S 7) (S 9) (S 5) (S 8) (S 6) (S 12))) (upd 13 (tab n (fieldRateVal scale (S 7) (S 1) (S 11))) S))
+
+-- the same in passes: the dissipation, to which the rates without it are added
+abbrev pub dampings : ℕ → Float → Slots → Slots
+dampings n scale S = upd 14 (tab n (dampingVal scale (S 12))) (upd 13 (tab n (dampingVal scale (S 11))) S)
+
+abbrev pub fieldRateIn : Slots → ℕ → Float
+fieldRateIn S i = add binary64 (fieldRateAt (at (S 7) i) (at (S 1) i)) (at (S 13) i)
+
+abbrev pub momentumRateIn : Slots → ℕ → Float
+momentumRateIn S i =
+    add binary64
+    (cond (eqb i 0) (originRateAt (at (S 9) i) (at (S 6) i)) (momentumRateAt (at (S 7) i) (at (S 9) i) (at (S 5) i) (at (S 8) i) (at (S 19) i) (at (S 6) i)))
+    (at (S 14) i)
+
+abbrev pub fieldRates : ℕ → Slots → Slots
+fieldRates n S = upd 13 (tab n (fieldRateIn S)) S
+
+abbrev pub momentumRates : ℕ → Slots → Slots
+momentumRates n S = upd 14 (tab n (momentumRateIn S)) S
 
 -- points lo to hi, the seven numbers of whose third difference begin back before them
 pub record Run (n lo hi back : ℕ) : Type 0 where

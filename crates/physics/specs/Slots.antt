@@ -12,7 +12,7 @@ use lib.Ieee.{Float, nan}
 use borrow.Rule.Slice.PartMut.{putMid}
 use borrow.Author.Tests.{eqb-true, eqb-false, eq-eqb}
 use Rattle.vectors.specs.Memory.{part, put}
-use Rattle.vectors.specs.MemoryLaws.{apart, by-cases, side, part-of-put, part-past-put, length-put-is, length-part, apart-left, apart-right, getD-part, Filled, filled-at, filled-part, lent, back}
+use Rattle.vectors.specs.MemoryLaws.{apart, by-cases, side, part-of-put, part-past-put, length-put-is, length-part, apart-left, apart-right, getD-part, Filled, filled-at, filled-mine, filled-part, lent, back}
 use Rattle.physics.specs.Fills.{Filled2, filled2-at, filled2-mine}
 
 abbrev pub Slots : Type 0
@@ -81,14 +81,15 @@ module _ (n : ℕ) {i : ℕ} {E xs : List Float} where
   unfolding slots
   reads a k j F h e l = filled-at n (k * n) n j nan F h (slots-apart n a k e) l
 
-  pub reads-first : {g : ℕ → Float} (a k : ℕ) → Filled (a * n) i g E xs → i ≤ n → eqb k a ≡ false → 0 < n → getD xs (k * n) nan ≡ getD (slots n E k) 0 nan
-  reads-first a k F h e l = ap (λ (j : ℕ). getD xs j nan) (sym (add-zero (k * n))) ∙ reads a k 0 F h e l
-
   pub reads2 : {f g : ℕ → Float} (a b k j : ℕ) → Filled2 (a * n) (b * n) i f g E xs → i ≤ n → eqb k a ≡ false → eqb k b ≡ false → j < n → getD xs (k * n + j) nan ≡ getD (slots n E k) j nan
   unfolding slots
   reads2 a b k j F h p q l = filled2-at n (k * n) n j nan F h (slots-apart n a k p) (slots-apart n b k q) l
 
   -- of its own slot a, what is written next
+  pub mine : {g : ℕ → Float} (a : ℕ) → Filled (a * n) i g E xs → i < n → getD xs (a * n + i) nan ≡ getD (slots n E a) i nan
+  unfolding slots
+  mine a F h = filled-mine n nan F h
+
   pub mine2 : {f g : ℕ → Float} (a b : ℕ) → Filled2 (a * n) (b * n) i f g E xs → i < n → eqb a b ≡ false → getD xs (a * n + i) nan ≡ getD (slots n E a) i nan
   unfolding slots
   mine2 a b F h e = filled2-mine n nan F h (slots-apart n b a e)

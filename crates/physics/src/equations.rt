@@ -4,13 +4,13 @@ ghost use Prim.Native.Nat.{_+_, _*_, _<_, _≤_};
 ghost use lib.ListN.{length};
 ghost use lib.Ieee.{binary64, add, mul, div};
 ghost use Rattle.vectors.specs.Dissipation.{dissipationScale};
-ghost use Rattle.vectors.specs.Memory.{part, put};
+ghost use Rattle.vectors.specs.Memory.{tab, part, put};
 ghost use Rattle.vectors.specs.MemoryLaws.{Grown};
 ghost use Rattle.vectors.specs.StencilLaws.{eight};
 ghost use Rattle.physics.specs.Equations.{fieldRateAt, momentumRateAt, originRateAt, massRateAt, boundedOf};
 ghost use Rattle.physics.specs.Slots.{slots, Became};
 ghost use Rattle.physics.specs.Vector.{at};
-ghost use Rattle.physics.specs.Passes.{Room, Inside, ReadyEquations, Run, HalfRun, halfVal, halfOn, halves, seconds, fieldRateIn, momentumRateIn, fieldRates, momentumRates, massRates, rates, derivatives, bounds};
+ghost use Rattle.physics.specs.Passes.{Room, Inside, ReadyEquations, Run, HalfRun, halfVal, halfOn, halves, seconds, dampingVal, dampings, fieldRates, momentumRates, massRates, rates, derivatives, bounds};
 use vectors::constants::DISSIPATION_FACTOR;
 use vectors::grid::delta;
 use vectors::rows::DIFF2_EDGE0;
@@ -84,7 +84,7 @@ fn half_dissipation_run(
     let end = from + n;
     let mut i = lo;
     while i < hi {
-        w[to + i] = half_dissipation_at(
+        w[to + i] = third_difference_times(
             w[correction + i],
             row7_hollow(DIFF3, &w[from..end], i - back),
         );
@@ -92,10 +92,10 @@ fn half_dissipation_run(
     }
 }
 
-fn half_dissipation_at(correction: f64, sum: f64) -> f64
-    ensures { λ v. ⌜ v ≡ mul binary64 correction (div binary64 sum eight) ⌝ }
+fn third_difference_times(factor: f64, sum: f64) -> f64
+    ensures { λ v. ⌜ v ≡ mul binary64 factor (div binary64 sum eight) ⌝ }
 {
-    correction * (sum / 8.0)
+    factor * (sum / 8.0)
 }
 
 // Slot 9: the second difference of the field.
@@ -128,92 +128,84 @@ fn compute_rates(n: usize, scale: f64, w: &mut [f64])
     requires { ⌜ Room n (length (now w)) ⌝ }
     ensures { λ _. ⌜ Became n (rates n scale) (now (w .entry)) (now (w .exit)) ⌝ }
 {
-    calculate_dt_field(n, scale, w);
-    calculate_dt_conj_momentum(n, scale, w);
+    dissipations(n, scale, w);
+    calculate_dt_field(n, w);
+    calculate_dt_conj_momentum(n, w);
     calculate_dt_alternate_mass(n, w);
 }
 
-// Slot 13.
-fn calculate_dt_field(n: usize, scale: f64, w: &mut [f64])
+// Slots 13 and 14: the dissipation of field and momentum, from slots 11 and 12.
+fn dissipations(n: usize, scale: f64, w: &mut [f64])
     requires { ⌜ Room n (length (now w)) ⌝ }
-    ensures { λ _. ⌜ Became n (fieldRates n scale) (now (w .entry)) (now (w .exit)) ⌝ }
+    ensures { λ _. ⌜ Became n (dampings n scale) (now (w .entry)) (now (w .exit)) ⌝ }
 {
-    let end = n - 3;
-    dt_field_run(n, scale, 0, 3, 0, w);
-    dt_field_run(n, scale, 3, end, 3, w);
-    dt_field_run(n, scale, end, n, 6, w);
+    let half_field = 11 * n;
+    let half_momentum = 12 * n;
+    let dt_field = 13 * n;
+    let dt_momentum = 14 * n;
+    dissipation(n, scale, half_field, dt_field, w);
+    dissipation(n, scale, half_momentum, dt_momentum, w);
 }
 
-fn dt_field_run(n: usize, scale: f64, lo: usize, hi: usize, back: usize, w: &mut [f64])
-    requires { ⌜ (Room n (length (now w))) × (Run n lo hi back) ⌝ }
+fn dissipation(n: usize, scale: f64, from: usize, to: usize, w: &mut [f64])
+    requires { ⌜ HalfRun n (length (now w)) from to ⌝ }
+    ensures { λ _. ⌜ now (w .exit) ≡ put to (tab n (dampingVal scale (part from n (now (w .entry))))) (now (w .entry)) ⌝ }
+{
+    let end = n - 3;
+    dissipation_run(n, scale, from, to, 0, 3, 0, w);
+    dissipation_run(n, scale, from, to, 3, end, 3, w);
+    dissipation_run(n, scale, from, to, end, n, 6, w);
+}
+
+fn dissipation_run(
+    n: usize,
+    scale: f64,
+    from: usize,
+    to: usize,
+    lo: usize,
+    hi: usize,
+    back: usize,
+    w: &mut [f64],
+)
+    requires { ⌜ (HalfRun n (length (now w)) from to) × (Run n lo hi back) ⌝ }
     ensures { λ _. ⌜ (length (now (w .exit)) ≡ length (now (w .entry)))
-        × Grown (13 * n) lo hi (λ E. fieldRateIn scale (slots n E)) (now (w .entry)) (now (w .exit)) ⌝ }
+        × Grown to lo hi (λ E. dampingVal scale (part from n E)) (now (w .entry)) (now (w .exit)) ⌝ }
 {
     let len = w.len();
-    let momentum = 1 * n;
-    let char_speed = 7 * n;
-    let half = 11 * n;
-    let end = 12 * n;
-    let to = 13 * n;
+    let end = from + n;
     let mut i = lo;
     while i < hi {
-        w[to + i] = dt_field_at(
-            w[char_speed + i],
-            w[momentum + i],
-            scale,
-            row7_hollow(DIFF3, &w[half..end], i - back),
-        );
+        w[to + i] = third_difference_times(scale, row7_hollow(DIFF3, &w[from..end], i - back));
         i += 1;
     }
 }
 
-fn dt_field_at(speed: f64, momentum: f64, scale: f64, sum: f64) -> f64
-    ensures { λ v. ⌜ v ≡ add binary64 (fieldRateAt speed momentum) (mul binary64 scale (div binary64 sum eight)) ⌝ }
-{
-    speed * momentum + scale * (sum / 8.0)
-}
-
-// Slot 14. Point 0 is set by L'Hopital's rule.
-fn calculate_dt_conj_momentum(n: usize, scale: f64, w: &mut [f64])
+// Slot 13, which holds the dissipation.
+fn calculate_dt_field(n: usize, w: &mut [f64])
     requires { ⌜ Room n (length (now w)) ⌝ }
-    ensures { λ _. ⌜ Became n (momentumRates n scale) (now (w .entry)) (now (w .exit)) ⌝ }
+    ensures { λ _. ⌜ Became n (fieldRates n) (now (w .entry)) (now (w .exit)) ⌝ }
 {
-    let end = n - 3;
-    dt_conj_momentum_origin(n, scale, w);
-    dt_conj_momentum_run(n, scale, 1, 3, 0, w);
-    dt_conj_momentum_run(n, scale, 3, end, 3, w);
-    dt_conj_momentum_run(n, scale, end, n, 6, w);
+    let len = w.len();
+    let momentum = 1 * n;
+    let char_speed = 7 * n;
+    let to = 13 * n;
+    let mut i = 0;
+    while i < n {
+        w[to + i] = dt_field_at(w[char_speed + i], w[momentum + i], w[to + i]);
+        i += 1;
+    }
 }
 
-fn dt_conj_momentum_origin(n: usize, scale: f64, w: &mut [f64])
+fn dt_field_at(speed: f64, momentum: f64, dissipation: f64) -> f64
+    ensures { λ v. ⌜ v ≡ add binary64 (fieldRateAt speed momentum) dissipation ⌝ }
+{
+    speed * momentum + dissipation
+}
+
+// Slot 14, which holds the dissipation. Point 0 is set by L'Hopital's rule.
+fn calculate_dt_conj_momentum(n: usize, w: &mut [f64])
     requires { ⌜ Room n (length (now w)) ⌝ }
-    ensures { λ _. ⌜ (length (now (w .exit)) ≡ length (now (w .entry)))
-        × Grown (14 * n) 0 1 (λ E. momentumRateIn scale (slots n E)) (now (w .entry)) (now (w .exit)) ⌝ }
-{
-    let lapse = 6 * n;
-    let second = 9 * n;
-    let half = 12 * n;
-    let end = 13 * n;
-    let to = 14 * n;
-    let rate = dt_conj_momentum_at_origin(
-        w[second],
-        w[lapse],
-        scale,
-        row7_hollow(DIFF3, &w[half..end], 0),
-    );
-    w[to] = rate;
-}
-
-fn dt_conj_momentum_at_origin(second: f64, lapse: f64, scale: f64, sum: f64) -> f64
-    ensures { λ v. ⌜ v ≡ add binary64 (originRateAt second lapse) (mul binary64 scale (div binary64 sum eight)) ⌝ }
-{
-    3.0 * second / lapse + scale * (sum / 8.0)
-}
-
-fn dt_conj_momentum_run(n: usize, scale: f64, lo: usize, hi: usize, back: usize, w: &mut [f64])
-    requires { ⌜ (Room n (length (now w))) × (Run n lo hi back) × (1 ≤ lo) ⌝ }
-    ensures { λ _. ⌜ (length (now (w .exit)) ≡ length (now (w .entry)))
-        × Grown (14 * n) lo hi (λ E. momentumRateIn scale (slots n E)) (now (w .entry)) (now (w .exit)) ⌝ }
+    ensures { λ _. ⌜ Became n (momentumRates n) (now (w .entry)) (now (w .exit)) ⌝ }
 {
     let len = w.len();
     let radial_factor = 5 * n;
@@ -221,13 +213,11 @@ fn dt_conj_momentum_run(n: usize, scale: f64, lo: usize, hi: usize, back: usize,
     let char_speed = 7 * n;
     let first = 8 * n;
     let second = 9 * n;
-    let half = 12 * n;
-    let end = 13 * n;
     let to = 14 * n;
     let points = 19 * n;
-    let mut i = lo;
-    while i < hi {
-        let smooth = scale * (row7_hollow(DIFF3, &w[half..end], i - back) / 8.0);
+    w[to] = dt_conj_momentum_at_origin(w[second], w[lapse], w[to]);
+    let mut i = 1;
+    while i < n {
         w[to + i] = dt_conj_momentum_at(
             w[char_speed + i],
             w[second + i],
@@ -235,10 +225,16 @@ fn dt_conj_momentum_run(n: usize, scale: f64, lo: usize, hi: usize, back: usize,
             w[first + i],
             w[points + i],
             w[lapse + i],
-            smooth,
+            w[to + i],
         );
         i += 1;
     }
+}
+
+fn dt_conj_momentum_at_origin(second: f64, lapse: f64, dissipation: f64) -> f64
+    ensures { λ v. ⌜ v ≡ add binary64 (originRateAt second lapse) dissipation ⌝ }
+{
+    3.0 * second / lapse + dissipation
 }
 
 fn dt_conj_momentum_at(
@@ -248,11 +244,11 @@ fn dt_conj_momentum_at(
     first: f64,
     r: f64,
     lapse: f64,
-    smooth: f64,
+    dissipation: f64,
 ) -> f64
-    ensures { λ v. ⌜ v ≡ add binary64 (momentumRateAt speed second factor first r lapse) smooth ⌝ }
+    ensures { λ v. ⌜ v ≡ add binary64 (momentumRateAt speed second factor first r lapse) dissipation ⌝ }
 {
-    speed * second + (factor + 1.0) * first / (r * lapse) + smooth
+    speed * second + (factor + 1.0) * first / (r * lapse) + dissipation
 }
 
 // Slot 15.

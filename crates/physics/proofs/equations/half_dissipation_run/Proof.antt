@@ -1,16 +1,16 @@
 -- `half_dissipation_run` meets its contract.
-use mathlib.Core.Path.{_≡_, refl, sym, ap, _∙_}
+use mathlib.Core.Path.{_≡_, refl, _∙_}
 use Prim.Native.Nat.{_≤_, _<_, _-_, _*_}
 use native.Mathlib.Omega.{arith}
 use lib.ListN.{length, length-set}
 use lib.Ieee.{nan}
 use Rattle.vectors.specs.Memory.{part}
-use Rattle.vectors.specs.MemoryLaws.{Grown, grown-none, grown-step, filled-part, filled-at, lent, length-part, apart-left}
+use Rattle.vectors.specs.MemoryLaws.{Grown, grown-none, grown-step, filled-at, apart-left}
 use Rattle.vectors.specs.Stencil.{diff3Row}
-use Rattle.vectors.specs.StencilLaws.{diff3-by}
 use Rattle.physics.specs.Slots.{slots}
 use Rattle.physics.specs.Vector.{at}
 use Rattle.physics.specs.Passes.{halfVal}
+use Rattle.physics.specs.EquationLaws.{third-in}
 use borrow.Author.Needs.{needs}
 use Rattle.physics.proofs.equations.half_dissipation_run.Statement.{statement}
 use Rattle.physics.proofs.equations.half_dissipation_run.Tie as tie
@@ -32,18 +32,13 @@ loop-again c =
     let pre = start .pre in
     let n = a .n in
     let i = turn .loop .i in
-    let w = turn .loop .w in
     let lt : i < n = omega arith in
     let W = pre .1 .windows i (omega arith) (omega arith) in (
       omega arith,
       omega arith,
       simp length-set (omega arith),
-      grown-step (turn .loop .inv .3) refl (λ E f.
-          let same = filled-part n (a .from) n nan f (omega arith) (pre .0 .far) in
-          let is = lent (a .from) _ n w refl ∙ same in
-          let long : length (part (a .from) n E) ≡ n = ap length (sym same) ∙ length-part (a .from) n w (omega arith) in
-          c .half-dissipation-at .ensures
-          ∙ rw (diff3-by (part (a .from) n E) _ is i (a .back) (rw long W) (c .before .row7-hollow .ensures), filled-at n (20 * n) n i nan f (omega arith) (apart-left (a .to) n (20 * n) n (pre .0 .target)) lt)),
+      grown-step (turn .loop .inv .3) refl (λ E f. c .third-difference-times .ensures
+          ∙ rw (third-in n (a .from) (a .back) f lt (pre .0 .far) (omega arith) W (c .before .row7-hollow .ensures), filled-at n (20 * n) n i nan f (omega arith) (apart-left (a .to) n (20 * n) n (pre .0 .target)) lt)),
     )
 
 returns : tie.Need-returns Inv-loop μ-loop

@@ -1,40 +1,41 @@
--- `dt_field_run` meets its contract.
+-- `dissipation_run` meets its contract.
 use mathlib.Core.Path.{_≡_, refl, _∙_}
-use Prim.Native.Nat.{_≤_, _<_, _-_, _*_}
+use Prim.Native.Nat.{_≤_, _<_, _-_}
 use native.Mathlib.Omega.{arith}
 use lib.ListN.{length, length-set}
+use Rattle.vectors.specs.Memory.{part}
 use Rattle.vectors.specs.MemoryLaws.{Grown, grown-none, grown-step}
 use Rattle.vectors.specs.Stencil.{diff3Row}
-use Rattle.physics.specs.Slots.{slots, reads}
-use Rattle.physics.specs.Passes.{fieldRateIn}
+use Rattle.physics.specs.Passes.{dampingVal}
 use Rattle.physics.specs.EquationLaws.{third-in}
 use borrow.Author.Needs.{needs}
-use Rattle.physics.proofs.equations.dt_field_run.Statement.{statement}
-use Rattle.physics.proofs.equations.dt_field_run.Tie as tie
+use Rattle.physics.proofs.equations.dissipation_run.Statement.{statement}
+use Rattle.physics.proofs.equations.dissipation_run.Tie as tie
 
--- the rates stand from lo to i
+-- the dissipation stands from lo to i
 abbrev Inv-loop : tie.InvT-loop
-Inv-loop n scale lo hi back w₀ len momentum speed half end to i₀ w i = (lo ≤ i) × (i ≤ hi) × (length w ≡ len) × Grown to i₀ i (λ E. fieldRateIn scale (slots n E)) w₀ w
+Inv-loop n scale from to lo hi back w₀ len end i₀ w i =
+    (lo ≤ i) × (i ≤ hi) × (length w ≡ len) × Grown to i₀ i (λ E. dampingVal scale (part from n E)) w₀ w
 
 abbrev μ-loop : tie.MeasureT-loop
-μ-loop n scale lo hi back w₀ len momentum speed half end to i₀ w i = hi - i
+μ-loop n scale from to lo hi back w₀ len end i₀ w i = hi - i
 
 loop-again : tie.Need-loop-again Inv-loop μ-loop
 unfolding diff3Row
 loop-again c =
-    let turn = c .before .before .before .before .before .before .before in
+    let turn = c .before .before .before .before .before in
     let start = turn .before .before in
+    let a = start .args in
     let pre = start .pre in
-    let n = start .args .n in
+    let n = a .n in
     let i = turn .loop .i in
     let lt : i < n = omega arith in
-    let le : i ≤ n = omega arith in
     let W = pre .1 .windows i (omega arith) (omega arith) in (
       omega arith,
       omega arith,
       simp length-set (omega arith),
-      grown-step (turn .loop .inv .3) refl (λ E f. c .dt-field-at .ensures
-          ∙ rw (third-in n 13 11 (12 * n) (start .args .back) f lt refl (omega arith) (omega arith) W (c .before .row7-hollow .ensures), reads n 13 7 i f le refl lt, reads n 13 1 i f le refl lt)),
+      grown-step (turn .loop .inv .3) refl (λ E f. c .third-difference-times .ensures
+          ∙ rw (third-in n (a .from) (a .back) f lt (pre .0 .far) (omega arith) W (c .before .row7-hollow .ensures))),
     )
 
 returns : tie.Need-returns Inv-loop μ-loop
@@ -42,24 +43,14 @@ returns c =
     let e : c .before .loop .i ≡ c .before .before .before .args .hi = omega arith in
     (omega arith, rw e at (c .before .loop .inv .3))
 
-pub dt-field-run-spec : {M : Type 1} → statement M
-dt-field-run-spec =
+pub dissipation-run-spec : {M : Type 1} → statement M
+dissipation-run-spec =
     tie.close
     (tie.spec
     Inv-loop
     μ-loop
     (λ c. search needs)
-    (λ c. search needs)
-    (λ c. search needs)
-    (λ c. search needs)
-    (λ c. search needs)
     (λ c. (omega arith, omega arith, refl, grown-none _ _ _ _))
-    (λ c. search needs)
-    (λ c. search needs)
-    (λ c. search needs)
-    (λ c. search needs)
-    (λ c. search needs)
-    (λ c. search needs)
     (λ c. search needs)
     (λ c. search needs)
     (λ c. search needs)

@@ -69,7 +69,7 @@ fn too_short(s: Settings, state: usize, work: usize) -> bool
 
 // Whether the run has made a step and is past its max time.
 fn timed_out(run: Record) -> bool
-    ensures { λ r. ⌜ r ≡ (leb 1 (run .steps) && lt (run .settings .tmax) (run .time)) ⌝ }
+    ensures { λ r. ⌜ r ≡ (leb 1 (run .steps) && lt (run .settings .«max_time») (run .time)) ⌝ }
 {
     if run.steps < 1 {
         return false;

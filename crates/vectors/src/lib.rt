@@ -1,5 +1,6 @@
 // Vectors of f64, the stencils on them, and exp and tan.
 pub mod answer;
+pub mod bits;
 pub mod constants;
 pub mod diff;
 pub mod exp;

@@ -8,7 +8,8 @@ use lib.Ieee.{Float}
 use Rattle.physics.specs.State.{State}
 use Rattle.run.specs.declared.settings.Settings.{Settings}
 use Rattle.run.specs.Model.{massAt, isLate}
-use Rattle.run.specs.PlainRun.{collapse, broke, timeout, spent, option, isSome, ended, outcome}
+use Rattle.run.specs.Outcome.{collapse, broke, timeout, spent}
+use Rattle.run.specs.PlainRun.{option, isSome, ended, outcome}
 
 module _ (s : Settings) (a : State) (steps : ℕ) (broken : Bool) where
   pub ended-mass : (m : Float) → some m ≡ massAt a → true ≡ ended s a steps broken

@@ -21,7 +21,8 @@ use Rattle.run.specs.declared.simulate.Begun.{Begun}
 use Rattle.run.specs.declared.simulate.Begun.the-variants as begun
 use Rattle.run.specs.declared.simulate.Live.{Live}
 use Rattle.run.specs.Model.{faultAt, cellCount, workCount, frameCount, stateIn, deltaNext, framesNext}
-use Rattle.run.specs.PlainRun.{Machine, collapse, broke, timeout, spent, hasEnded, attempt}
+use Rattle.run.specs.Outcome.{collapse, broke, timeout, spent}
+use Rattle.run.specs.PlainRun.{Machine, hasEnded, attempt}
 use Rattle.run.specs.Tally.{Reply, refused, full, ran}
 use Rattle.run.specs.Calls.{Began, refusedBegin, accepted, AfterBegin, AfterAdvance, recordOf, machineOf, withState}
 

@@ -11,7 +11,8 @@ use lib.Ieee.{Float}
 use lib.ListN.{length, length-append}
 use Rattle.run.specs.declared.settings.Settings.{Settings}
 use Rattle.run.specs.Model.{massAt, isLate, faultAt}
-use Rattle.run.specs.PlainRun.{Machine, Outcome, collapse, broke, timeout, spent, isSome, option, ended, outcome, hasEnded, outcomeOf, attempt, plainRun}
+use Rattle.run.specs.Outcome.{Outcome, collapse, broke, timeout, spent}
+use Rattle.run.specs.PlainRun.{Machine, isSome, option, ended, outcome, hasEnded, outcomeOf, attempt, plainRun}
 use Rattle.run.specs.PlainRunLaws.{after, attempt-ended, attempt-after, plainRun-more, Formed, attempt-formed}
 use Rattle.run.specs.Tally.{Reply, refused, full, ran, Told, appended, noRoom, attempts}
 use Rattle.run.specs.Calls.{Stop, isFull, attemptsFrom, framesTold, counted}

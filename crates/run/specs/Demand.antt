@@ -10,7 +10,8 @@ use lib.ListN.{length, take, drop}
 use Rattle.run.specs.declared.settings.Settings.{Settings}
 use Rattle.run.specs.declared.settings.Record.{Record}
 use Rattle.run.specs.Model.{cellCount, frameCount, stateIn}
-use Rattle.run.specs.PlainRun.{Outcome, collapse, broke, timeout, spent, plainRun}
+use Rattle.run.specs.Outcome.{Outcome, collapse, broke, timeout, spent}
+use Rattle.run.specs.PlainRun.{plainRun}
 use Rattle.run.specs.Tally.{Reply, refused, full, ran, Fed, tally}
 use Rattle.run.specs.Calls.{refusedBegin, accepted, AfterBegin, beginOf, beginRefusal, framesIn, Call, Session, calls, replies, total, unusedBefore, unusedAfter}
 

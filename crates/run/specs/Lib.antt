@@ -14,6 +14,7 @@ pub mod InputsLaws
 pub mod Model
 pub mod ModelLaws
 pub mod OneCall
+pub mod Outcome
 pub mod PlainRun
 pub mod PlainRunLaws
 pub mod SkippedRun

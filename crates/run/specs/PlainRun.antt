@@ -7,6 +7,7 @@ use lib.Dec.{leb}
 use lib.Ieee.{Float}
 use Rattle.physics.specs.State.{State}
 use Rattle.run.specs.declared.settings.Settings.{Settings}
+use Rattle.run.specs.Outcome.{Outcome, collapse, broke, timeout, spent}
 use Rattle.run.specs.Model.{firstState, nextState, holdsNan, framesNext, frameOf, massAt, isLate}
 
 -- "Machine: state, steps, broken mark, frames."
@@ -15,13 +16,6 @@ pub record Machine : Type 0 where
   pub steps : ℕ
   pub broken : Bool
   pub frames : List (List Float)
-
--- "collapse with mass, else broken, else timeout, else spent"
-pub data Outcome : Type 0 where
-  collapse : Float → Outcome
-  broke : Outcome
-  timeout : Outcome
-  spent : Outcome
 
 -- whether there is one
 abbrev pub isSome : {A : Type 0} → Option A → Bool

@@ -7,7 +7,8 @@ use lib.Dec.{ltb}
 use lib.ListN.{length}
 use Rattle.run.specs.declared.settings.Settings.{Settings}
 use Rattle.run.specs.Model.{cellCount, workCount, frameCount, framesNext}
-use Rattle.run.specs.PlainRun.{Machine, Outcome, hasEnded, outcomeOf, plainRun}
+use Rattle.run.specs.Outcome.{Outcome}
+use Rattle.run.specs.PlainRun.{Machine, hasEnded, outcomeOf, plainRun}
 
 -- what an advance answers beside the record: a refusal's number; full with the attempts made and how many frames; or the outcome and how
 -- many frames

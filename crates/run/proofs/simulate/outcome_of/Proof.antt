@@ -5,7 +5,7 @@ use lib.Dec.{leb}
 use borrow.Author.Needs.{needs}
 use Rattle.physics.specs.BlackHole.{formedOf}
 use Rattle.run.specs.Model.{stateIn}
-use Rattle.run.specs.PlainRun.{Outcome}
+use Rattle.run.specs.Outcome.{Outcome}
 use Rattle.run.specs.Tally.{ran}
 use Rattle.run.proofs.Leaves.{late-in}
 use Rattle.run.proofs.Ends.{outcome-mass, outcome-broken, outcome-late}

@@ -1,4 +1,5 @@
 pub mod Answers
+pub mod Ascii
 pub mod Calls
 pub mod CallsLaws
 pub mod Clock
@@ -17,6 +18,10 @@ pub mod OneCall
 pub mod Outcome
 pub mod PlainRun
 pub mod PlainRunLaws
+pub mod Recovered
+pub mod Report
+pub mod ReportExamples
+pub mod ReportLaws
 pub mod SkippedRun
 pub mod Tally
 pub mod WriteLaws

@@ -1,11 +1,12 @@
 -- Lists that are written into a memory one after another.
 use mathlib.Core.Path.{_≡_, sym, ap, _∙_}
 use mathlib.Core.List.{List, [], _∷_, _++_, append-assoc}
-use Prim.Native.Nat.{ℕ, _+_, _-_, _≤_, _<_}
+use Prim.Native.Nat.{ℕ, suc, _+_, _-_, _≤_, _<_}
+use native.Mathlib.Nat.{add-zero}
 use native.Mathlib.Numerals.{add-one}
 use native.Mathlib.Omega.{arith}
-use lib.ListN.{length, take, drop, set, length-append, length-take}
-use lib.Seq.{drop-drop, set-split, take-at, drop-at}
+use lib.ListN.{length, take, drop, set, length-append, length-take, take-append-drop}
+use lib.Seq.{drop-drop, length-take-le, set-split, take-append-seam, take-at, take-set-le, drop-at}
 use Rattle.vectors.specs.Memory.{put}
 use Rattle.vectors.specs.MemoryLaws.{length-put}
 
@@ -42,6 +43,31 @@ module _ {A : Type 0} where
   pub put-one : (at : ℕ) (y : A) (xs : List A) → at < length xs → put at (y ∷ []) xs ≡ set xs at y
   unfolding put
   put-one at y xs h = ap (λ (n : ℕ). take at xs ++ y ∷ drop n xs) (add-one at) ∙ sym (set-split xs at y h)
+
+  -- nothing
+  pub put-nil : (at : ℕ) (xs : List A) → put at [] xs ≡ xs
+  unfolding put
+  put-nil at xs = rw add-zero (take-append-drop at xs)
+
+  -- the first number before the others
+  pub put-cons : (at : ℕ) (y : A) (ys xs : List A) → at + 1 + length ys ≤ length xs → put (at + 1) ys (set xs at y) ≡ put at (y ∷ ys) xs
+  put-cons at y ys xs h = ap (put (at + 1) ys) (sym (put-one at y xs (omega arith))) ∙ put-append at (y ∷ []) ys xs (omega arith)
+
+  drop-set : (n : ℕ) (xs : List A) (y : A) → n < length xs → drop n (set xs n y) ≡ y ∷ drop (suc n) xs
+  drop-set n xs y h = ap (drop n) (set-split xs n y h) ∙ drop-at (take n xs) (y ∷ drop (suc n) xs) n (length-take-le n xs (omega arith))
+
+  -- the last number before the others
+  pub put-snoc : (at : ℕ) (ys : List A) (y : A) (xs : List A) → at + length ys < length xs → put at ys (set xs (at + length ys) y) ≡ put at (ys ++ (y ∷ [])) xs
+  unfolding put
+  put-snoc at ys y xs h =
+      let n = at + length ys in
+      let s : at + length (ys ++ (y ∷ [])) ≡ suc n = omega (arith, length-append ys (y ∷ [])) in
+      rw (take-set-le at xs n y (omega arith), drop-set n xs y h, s) (simp append-assoc)
+
+  -- what was put first
+  pub take-put : (ys xs : List A) → take (length ys) (put 0 ys xs) ≡ ys
+  unfolding put
+  take-put ys xs = take-append-seam ys (drop (0 + length ys) xs)
 
   -- ys were written from at on, where there was room for them
   pub record Wrote (at : ℕ) (ys xs₀ xs : List A) : Type 0 where

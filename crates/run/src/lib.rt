@@ -1,7 +1,9 @@
 // Runs with budgeted advance.
 pub mod adaptive_time_step;
 mod model;
+pub mod report;
 pub mod settings;
 pub mod simulate;
 pub mod simulation_inputs;
 pub mod state_output_builder;
+mod text;

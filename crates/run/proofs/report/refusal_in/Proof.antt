@@ -1,0 +1,27 @@
+-- `run::report::refusal_in` meets its contract.
+use native.Mathlib.Omega.{arith}
+use borrow.Author.Needs.{needs}
+use Rattle.run.specs.Ascii.{bytesOf}
+use Rattle.run.specs.Report.{refusalLine, refusedWord}
+use Rattle.run.proofs.Texts.{puts-wider, puts-then}
+use Rattle.run.proofs.report.refusal_in.Statement.{statement}
+use Rattle.run.proofs.report.refusal_in.Tie as tie
+
+returns : tie.Need-returns
+unfolding refusalLine refusedWord bytesOf
+returns c =
+    let end = c .before .before in
+    let number = end .before .before .before .before in
+    let word = number .before .before .before .before in
+    puts-wider (puts-then (puts-then (word .put-word .ensures) (number .put-decimal .ensures) (omega arith)) (end .put-newline .ensures) (omega arith)) (omega arith)
+
+pub refusal-in-spec : {M : Type 1} → statement M
+refusal-in-spec =
+    tie.close
+    (tie.spec
+    (λ c. search needs)
+    (λ c κs. search needs)
+    (λ c κs. search needs)
+    (λ c κs. search needs)
+    (λ c. search needs)
+    returns)

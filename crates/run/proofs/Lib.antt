@@ -4,3 +4,4 @@ pub mod Refusals
 pub mod OneAttempt
 pub mod Attempts
 pub mod Beginning
+pub mod Orders

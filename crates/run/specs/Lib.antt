@@ -1,4 +1,5 @@
 pub mod Answers
+pub mod Bytes
 pub mod Calls
 pub mod CallsLaws
 pub mod Clock
@@ -14,6 +15,9 @@ pub mod InputsLaws
 pub mod Model
 pub mod ModelLaws
 pub mod OneCall
+pub mod Order
+pub mod OrderExamples
+pub mod OrderLaws
 pub mod Outcome
 pub mod PlainRun
 pub mod PlainRunLaws

@@ -2,20 +2,20 @@
 use Prim.Native.Nat.{ℕ, zero, suc, _+_, _≤_, _<_}
 use mathlib.Core.Path.{_≡_, refl, sym, ap, _∙_}
 use mathlib.Core.List.{List}
-use mathlib.Core.Bool.{Bool, true, false, cond}
+use mathlib.Core.Bool.{true, false, cond}
 use native.Mathlib.Omega.{arith}
-use lib.ListN.{length, getD, List·getD-eq-default}
-use lib.Dec.{ltb, leb, eqb}
-use borrow.Author.Tests.{le-leb, lt-leb, lt-ltb, le-ltb, ltb-false}
+use lib.ListN.{length, List·getD-eq-default}
+use lib.Dec.{ltb, eqb}
+use borrow.Author.Tests.{le-leb, lt-leb, lt-ltb, le-ltb}
 use Rattle.run.specs.Bytes.{byteAt, little}
 use Rattle.run.specs.Order.{isKnown, operandSize, commandOf, isCut, commandAt, nextAt, commandReadAt, noPlaces, noted}
 use Rattle.run.specs.Order.{commandFault, unlessFault, ended, orderFrom, readOrder}
+use Rattle.run.specs.OrderLaws.{next-after}
 use Rattle.run.specs.declared.order.Command.{Command}
 use Rattle.run.specs.declared.order.Command.the-variants.{Amplitude, Level, MaxTime, Interval, DxLevel, Skip, Begin, Advance, End, Wrong}
-use Rattle.run.specs.declared.order.CommandRead.{CommandRead}
 use Rattle.run.specs.declared.order.Places.{Places}
 use Rattle.run.specs.declared.order.Read.{Read}
-use Rattle.run.specs.declared.order.Read.the-variants.{Refused, Order}
+use Rattle.run.specs.declared.order.Read.the-variants.{Refused}
 
 -- past the end bytes count as 0
 pub little-past : (n : ℕ) (s : List ℕ) (at : ℕ) → length s ≤ at → 0 ≡ little n s at
@@ -76,14 +76,6 @@ module _ (s : List ℕ) (at : ℕ) where
       → c ≡ commandOf s (at + 1) (byteAt s at) → k ≡ at + 1 + n → record { command = c; next = k } ≡ commandReadAt s at
   unfolding nextAt
   read-whole l e h g f = pair (rw (by-cut l, whole e h) g) (rw (whole e h) (rw (← e) f))
-
-  pub next-after : at < length s → at < nextAt s at
-  unfolding nextAt
-  next-after h = go (isCut s at)
-    where
-      go : (b : Bool) → at < cond b (length s) (at + 1 + operandSize (byteAt s at))
-      go true = h
-      go false = omega arith
 
 -- ---- an order
 

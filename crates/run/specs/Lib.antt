@@ -17,6 +17,8 @@ pub mod ModelLaws
 pub mod OneCall
 pub mod Order
 pub mod OrderExamples
+pub mod OrderForm
+pub mod OrderFormLaws
 pub mod OrderLaws
 pub mod Outcome
 pub mod PlainRun

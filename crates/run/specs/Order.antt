@@ -1,7 +1,7 @@
 -- 01, "Orders (added)" and "From the input", 1 to 4: what an order says, or how it is refused. Definitions only.
 use Prim.Native.Nat.{ℕ, zero, suc, _+_, _*_}
 use mathlib.Core.List.{List, [], _∷_}
-use mathlib.Core.Bool.{Bool, true, false, cond, _&&_}
+use mathlib.Core.Bool.{Bool, cond, _&&_}
 use lib.ListN.{length, getD}
 use lib.Dec.{ltb, leb, eqb}
 use Rattle.run.specs.Bytes.{byteAt, little, floatAt}

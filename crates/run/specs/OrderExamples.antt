@@ -7,7 +7,6 @@ use lib.Ieee.{binary64, ofBits}
 use Rattle.run.specs.Bytes.{little, floatAt}
 use Rattle.run.specs.Order.{isKnown, operandSize, switchOf, commandOf, isCut, commandAt, nextAt, places, noted, begun, complete}
 use Rattle.run.specs.Order.{settingFault, beginFault, unlessBegun, commandFault, settingsAt, unlessFault, ended, orderFrom, readOrder, budgetAt}
-use Rattle.run.specs.declared.order.Read.{Read}
 use Rattle.run.specs.declared.order.Read.the-variants.{Refused, Order}
 
 -- `01 0000000000000000 02 05 03 0000000000000000 04 000000000000F03F 05 05 06 01`, 33 bytes

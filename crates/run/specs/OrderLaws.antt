@@ -1,13 +1,13 @@
 -- What an accepted order is known to hold: each setting is its command's operand, and each budget that of its 08.
 use Prim.Native.Nat.{ℕ, zero, suc, _+_, _-_, _*_, _≤_, _<_}
-use mathlib.Core.Path.{_≡_, refl, sym, ap, _∙_, subst}
+use mathlib.Core.Path.{_≡_, refl, ap, _∙_, subst}
 use mathlib.Core.List.{List}
 use mathlib.Core.Bool.{Bool, true, false, cond, _&&_}
 use mathlib.Core.Logic.{_⊎_, inl, inr}
 use native.Mathlib.Omega.{arith}
-use lib.ListN.{length, getD}
+use lib.ListN.{length}
 use lib.Dec.{ltb, leb, eqb}
-use borrow.Author.Tests.{ltb-true, ltb-false, leb-true, leb-false, lt-ltb, le-ltb, lt-leb, eqb-true, eqb-false}
+use borrow.Author.Tests.{ltb-true, ltb-false, leb-false, le-ltb, lt-leb, eqb-true, eqb-false}
 use Rattle.run.specs.Bytes.{byteAt, little, floatAt}
 use Rattle.run.specs.Order.{isKnown, operandSize, switchOf, commandOf, isCut, commandAt, nextAt, noPlaces, noted, begun, complete}
 use Rattle.run.specs.Order.{settingFault, beginFault, unlessBegun, commandFault, settingsAt, unlessFault, ended, orderFrom, readOrder, budgetAt}
@@ -68,6 +68,14 @@ tells s at e =
     go false false cut t = omega arith
     go false true true t = omega arith
     go false true false t = t
+
+pub next-after : (s : List ℕ) (at : ℕ) → at < length s → at < nextAt s at
+unfolding nextAt
+next-after s at h = go (isCut s at)
+  where
+    go : (cut : Bool) → at < cond cut (length s) (at + 1 + operandSize (byteAt s at))
+    go true = h
+    go false = omega arith
 
 -- 09 stands alone
 pub command-end : (s : List ℕ) (at : ℕ) → at < length s → byteAt s at ≡ 9 → commandAt s at ≡ End
@@ -181,10 +189,10 @@ module _ (s : List ℕ) (P : Places → ℕ → Type 0) (keeps : Keeps s P) wher
 -- ---- budgets
 
 -- the 08 so far stand one after another, five bytes each
-record Advances (s : List ℕ) (p : Places) (at : ℕ) : Type 0 where
-  idle : p .advances ≡ 0 → p .count ≡ 0
-  here : 0 < p .advances → at ≡ p .advances + 5 * p .count
-  each : (k : ℕ) → k < p .count → commandAt s (p .advances + 5 * k) ≡ Advance (budgetAt s (p .advances) k)
+pub record Advances (s : List ℕ) (p : Places) (at : ℕ) : Type 0 where
+  pub idle : p .advances ≡ 0 → p .count ≡ 0
+  pub here : 0 < p .advances → at ≡ p .advances + 5 * p .count
+  pub each : (k : ℕ) → k < p .count → commandAt s (p .advances + 5 * k) ≡ Advance (budgetAt s (p .advances) k)
 
 advances-idle : {s : List ℕ} {p q : Places} {at to : ℕ} → Advances s p at → p .advances ≡ 0
     → q .advances ≡ p .advances → q .count ≡ p .count → Advances s q to
@@ -203,7 +211,7 @@ advances-setting : {s : List ℕ} {p q : Places} {at to : ℕ} (place : ℕ) →
     → q .advances ≡ p .advances → q .count ≡ p .count → Advances s q to
 advances-setting {p = p} place r f a c = advances-idle r (idle-advances p (setting-early p place f)) a c
 
-advances-kept : (s : List ℕ) → Keeps s (Advances s)
+pub advances-kept : (s : List ℕ) → Keeps s (Advances s)
 unfolding noted commandFault budgetAt
 advances-kept s p at (Amplitude x) l r e f d = advances-setting (p .amplitude) r f refl refl
 advances-kept s p at (Level x) l r e f d = advances-setting (p .level) r f refl refl
@@ -231,13 +239,13 @@ advances-kept s p at (Advance n) l r e f d =
 advances-kept s p at End l r e f d = absurd (eqb-false (byteAt s at) 9 d (tells s at e))
 advances-kept s p at (Wrong n) l r e f d = let t = tells s at e in absurd (omega arith)
 
+pub advances-first : (s : List ℕ) → Advances s noPlaces 0
+advances-first s = record { idle = λ z. refl; here = λ z. absurd (omega arith); each = λ k h. absurd (omega arith) }
+
 -- in an accepted order the k-th command after 07 is 08 with the k-th budget
 pub read-budgets : (s : List ℕ) (set : Settings) (p : Places) → readOrder s ≡ Order set p
     → (k : ℕ) → k < p .count → commandAt s (p .advances + 5 * k) ≡ Advance (budgetAt s (p .advances) k)
-read-budgets s set p e = accepted-ends s (Advances s) (advances-kept s) first set p e .kept .each
-  where
-    first : Advances s noPlaces 0
-    first = record { idle = λ z. refl; here = λ z. absurd (omega arith); each = λ k h. absurd (omega arith) }
+read-budgets s set p e = accepted-ends s (Advances s) (advances-kept s) (advances-first s) set p e .kept .each
 
 -- ---- settings
 
@@ -256,7 +264,7 @@ pub record Operands (s : List ℕ) (set : Settings) (p : Places) : Type 0 where
   pub skip : Stands s (p .skip) (Skip (set .skip))
 
 -- so far: those that came stand there, and once 07 came, all came
-record SoFar (s : List ℕ) (p : Places) (at : ℕ) : Type 0 where
+pub record SoFar (s : List ℕ) (p : Places) (at : ℕ) : Type 0 where
   amplitude : 0 < p .amplitude → Stands s (p .amplitude) (Amplitude (floatAt s (p .amplitude)))
   level : 0 < p .level → Stands s (p .level) (Level (byteAt s (p .level)))
   «max_time» : 0 < p .«max_time» → Stands s (p .«max_time») (MaxTime (floatAt s (p .«max_time»)))
@@ -272,7 +280,7 @@ stands-here s at e g = record { after = omega arith; is = let same : at + 1 - 1 
 never : (p : Places) (place : ℕ) {A : Type 0} → settingFault p place ≡ 0 → begun p ≡ true → A
 never p place f b = let g = setting-early p place f in let z : _≡_ {A = ℕ} 0 1 = cc in absurd (omega arith)
 
-soFar-kept : (s : List ℕ) → Keeps s (SoFar s)
+pub soFar-kept : (s : List ℕ) → Keeps s (SoFar s)
 unfolding noted commandFault begun complete
 soFar-kept s p at (Amplitude x) l r e f d =
     record {
@@ -361,25 +369,47 @@ both : (a b : Bool) → (a && b) ≡ true → (a ≡ true) × (b ≡ true)
 both true b e = (refl, e)
 both false b e = let z : _≡_ {A = ℕ} 0 1 = cc in absurd (omega arith)
 
--- in an accepted order each setting is its command's operand
-pub read-settings : (s : List ℕ) (set : Settings) (p : Places) → readOrder s ≡ Order set p → Operands s set p
-unfolding complete settingsAt
-read-settings s set p e =
-    let h = accepted-ends s (SoFar s) (soFar-kept s) first set p e in
-    let r = h .kept in
-    let six = both _ _ (r .all (h .started)) in
+-- all six came
+pub record AllCame (p : Places) : Type 0 where
+  pub amplitude : 0 < p .amplitude
+  pub level : 0 < p .level
+  pub «max_time» : 0 < p .«max_time»
+  pub interval : 0 < p .interval
+  pub «dx_level» : 0 < p .«dx_level»
+  pub skip : 0 < p .skip
+
+pub complete-all : (p : Places) → complete p ≡ true → AllCame p
+unfolding complete
+complete-all p e =
+    let six = both _ _ e in
     let four = both _ _ (six .0) in
     let ab = both _ _ (four .0) in
     let cd = both _ _ (four .1) in
     let ef = both _ _ (six .1) in
+    record {
+      amplitude = ltb-true 0 (p .amplitude) (ab .0);
+      level = ltb-true 0 (p .level) (ab .1);
+      «max_time» = ltb-true 0 (p .«max_time») (cd .0);
+      interval = ltb-true 0 (p .interval) (cd .1);
+      «dx_level» = ltb-true 0 (p .«dx_level») (ef .0);
+      skip = ltb-true 0 (p .skip) (ef .1);
+    }
+
+-- in an accepted order each setting is its command's operand
+pub read-settings : (s : List ℕ) (set : Settings) (p : Places) → readOrder s ≡ Order set p → Operands s set p
+unfolding settingsAt
+read-settings s set p e =
+    let h = accepted-ends s (SoFar s) (soFar-kept s) first set p e in
+    let r = h .kept in
+    let came = complete-all p (r .all (h .started)) in
     rw (h .settings)
     (record {
-      amplitude = r .amplitude (ltb-true 0 (p .amplitude) (ab .0));
-      level = r .level (ltb-true 0 (p .level) (ab .1));
-      «max_time» = r .«max_time» (ltb-true 0 (p .«max_time») (cd .0));
-      interval = r .interval (ltb-true 0 (p .interval) (cd .1));
-      «dx_level» = r .«dx_level» (ltb-true 0 (p .«dx_level») (ef .0));
-      skip = r .skip (ltb-true 0 (p .skip) (ef .1));
+      amplitude = r .amplitude (came .amplitude);
+      level = r .level (came .level);
+      «max_time» = r .«max_time» (came .«max_time»);
+      interval = r .interval (came .interval);
+      «dx_level» = r .«dx_level» (came .«dx_level»);
+      skip = r .skip (came .skip);
     })
   where
     first : SoFar s noPlaces 0

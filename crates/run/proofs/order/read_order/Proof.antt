@@ -1,5 +1,5 @@
 -- `run::order::read_order` meets its contract.
-use Prim.Native.Nat.{ℕ, _+_, _-_, _≤_, _<_}
+use Prim.Native.Nat.{ℕ, _-_, _≤_, _<_}
 use mathlib.Core.List.{List}
 use mathlib.Core.Path.{_≡_, refl, ap}
 use native.Mathlib.Omega.{arith}
@@ -7,9 +7,10 @@ use lib.ListN.{length}
 use borrow.Author.Needs.{needs}
 use borrow.Author.Tests.{eq-eqb, ne-eqb}
 use Rattle.run.specs.Order.{nextAt}
+use Rattle.run.specs.OrderLaws.{next-after}
 use Rattle.run.specs.declared.order.CommandRead.{CommandRead}
 use Rattle.run.specs.declared.order.Places.{Places}
-use Rattle.run.proofs.Orders.{Rest, Here, next-after, rest-first, rest-none, rest-fault, rest-end, rest-more, count-noted}
+use Rattle.run.proofs.Orders.{Rest, Here, rest-first, rest-none, rest-fault, rest-end, rest-more, count-noted}
 use Rattle.run.proofs.order.read_order.Statement.{statement}
 use Rattle.run.proofs.order.read_order.Tie as tie
 

@@ -5,3 +5,4 @@ pub mod OneAttempt
 pub mod Attempts
 pub mod Beginning
 pub mod Texts
+pub mod Orders

@@ -1,5 +1,6 @@
 pub mod Answers
 pub mod Ascii
+pub mod Bytes
 pub mod Calls
 pub mod CallsLaws
 pub mod Clock
@@ -15,6 +16,11 @@ pub mod InputsLaws
 pub mod Model
 pub mod ModelLaws
 pub mod OneCall
+pub mod Order
+pub mod OrderExamples
+pub mod OrderForm
+pub mod OrderFormLaws
+pub mod OrderLaws
 pub mod Outcome
 pub mod PlainRun
 pub mod PlainRunLaws

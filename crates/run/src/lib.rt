@@ -1,6 +1,8 @@
 // Runs with budgeted advance.
 pub mod adaptive_time_step;
+mod bytes;
 mod model;
+pub mod order;
 pub mod report;
 pub mod settings;
 pub mod simulate;

@@ -237,12 +237,12 @@ fn runs() -> [Draft; 48] {
         draft(asked(30.0, 5, 1.0, 0.059375, 0, 0), FOUR, 15, 18),
         draft(asked(30.0, 6, 6.0, 1.0, 1, 0), EIGHT, 60, 35),
         draft(asked(50.0, 6, 0.5, 0.05, 0, 0), FOUR, 70, 90),
-        // an 08 that fills frame memory: once (seven frames of 1,163), twice (27 of 299), twice (409 of 20)
-        draft(asked(20.0, 7, 0.9, 0.1, 7, 0), ONE, LAST, 0),
-        draft(asked(20.0, 5, 1.9, bits(0x3F9F07C1F07C1F08), 5, 0), ONE, 1000, 0),
-        draft(asked(20.0, 7, 6.9, bits(0x3F7FC07F01FC07F0), 0, 0), ONE, LAST, 0),
-        // a budget that is used up where frame memory is full and a frame step comes
-        draft(asked(20.0, 7, 0.9, 0.05, 7, 0), TWO, 55, 1),
+        // an 08 that fills frame memory: once (seven frames of 1,163), twice (27 of 299)
+        draft(asked(20.0, 7, 0.8, 0.1, 7, 0), ONE, LAST, 0),
+        draft(asked(20.0, 5, 1.7, bits(0x3F9F07C1F07C1F08), 5, 0), ONE, LAST, 0),
+        // a budget that is used up where frame memory is full (409 frames of 20) and a frame step comes; a short one
+        draft(asked(20.0, 7, 4.0, bits(0x3F7FC07F01FC07F0), 0, 0), TWO, 819, 2),
+        draft(asked(20.0, 7, 0.04, bits(0x3F7FC07F01FC07F0), 1, 0), TWO, 3, 20),
         // 14 after frames
         draft(asked(20.0, 6, 4.0, 0.04, 2, 0), TWO, 50, LAST),
     ]

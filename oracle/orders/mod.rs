@@ -19,12 +19,12 @@ pub fn print() {
     }
 }
 
-/// One order, from a file or from standard input.
+/// One order, from a file or from standard input; of a longer one 4,097 bytes.
 pub fn answer(file: Option<String>) -> std::io::Result<()> {
     let mut bytes = Vec::new();
     match file {
-        Some(name) => std::fs::File::open(name)?.read_to_end(&mut bytes)?,
-        None => std::io::stdin().read_to_end(&mut bytes)?,
+        Some(name) => std::fs::File::open(name)?.take(4097).read_to_end(&mut bytes)?,
+        None => std::io::stdin().take(4097).read_to_end(&mut bytes)?,
     };
     std::io::stdout().write_all(program::lines(&bytes).as_bytes())
 }

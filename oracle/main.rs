@@ -1,8 +1,10 @@
-//! The Rust side of every comparison: `oracle NAME` prints the cases of one layer and their answers.
+//! The Rust side of every comparison: `oracle NAME` prints the cases of one layer and their answers. `oracle order`
+//! answers one order, and `oracle random` compares a program with the answers to random orders.
 mod arguments;
 mod digest;
 mod domain;
 mod mantissas;
+mod orders;
 mod ours;
 mod physics;
 mod run;
@@ -15,9 +17,30 @@ fn main() {
         "vectors" => vectors::print(),
         "physics" => physics::print(),
         "run" => run::print(),
-        _ => {
-            eprintln!("usage: oracle vectors | physics | run");
-            std::process::exit(2);
-        }
+        "orders" => orders::print(),
+        "order" => order(std::env::args().nth(2)),
+        "random" => random(),
+        _ => usage(),
     }
+}
+
+fn order(file: Option<String>) {
+    if let Err(why) = orders::answer(file) {
+        eprintln!("oracle: {why}");
+        std::process::exit(1);
+    }
+}
+
+fn random() {
+    let program = std::env::args().nth(2).unwrap_or_else(|| usage());
+    orders::compare(&program, number(3), number(4));
+}
+
+fn number(i: usize) -> u64 {
+    std::env::args().nth(i).and_then(|text| text.parse().ok()).unwrap_or_else(|| usage())
+}
+
+fn usage() -> ! {
+    eprintln!("usage: oracle vectors | physics | run | orders | order [FILE] | random PROGRAM COUNT SEED");
+    std::process::exit(2);
 }

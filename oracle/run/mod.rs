@@ -1,12 +1,12 @@
 //! Cases of the crate run. crates/run_cases prints the same lines.
-mod begin;
+pub mod begin;
 mod calls;
 mod forged;
-mod lines;
+pub mod lines;
 mod lists;
 mod memories;
-mod plain;
-mod settings;
+pub mod plain;
+pub mod settings;
 mod tally;
 mod whole;
 

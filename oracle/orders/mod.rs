@@ -1,0 +1,30 @@
+//! Orders: what the program `collapse` prints for them. crates/order_cases prints the same lines for the table.
+mod draft;
+mod program;
+mod random;
+mod reader;
+mod table;
+
+pub use random::compare;
+
+use crate::digest::mixed;
+use std::io::{Read, Write};
+
+/// Each order of the table: its number, how many bytes it has and their digest; then what the program prints.
+pub fn print() {
+    for (k, draft) in table::drafts().iter().enumerate() {
+        let bytes = draft.bytes();
+        let digest = bytes.iter().fold(1, |d, &b| mixed(d, b as u64));
+        print!("order {k} bytes {} {digest}\n{}", bytes.len(), program::lines(&bytes));
+    }
+}
+
+/// One order, from a file or from standard input; of a longer one 4,097 bytes.
+pub fn answer(file: Option<String>) -> std::io::Result<()> {
+    let mut bytes = Vec::new();
+    match file {
+        Some(name) => std::fs::File::open(name)?.take(4097).read_to_end(&mut bytes)?,
+        None => std::io::stdin().take(4097).read_to_end(&mut bytes)?,
+    };
+    std::io::stdout().write_all(program::lines(&bytes).as_bytes())
+}

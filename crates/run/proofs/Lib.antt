@@ -6,3 +6,5 @@ pub mod Attempts
 pub mod Beginning
 pub mod Texts
 pub mod Orders
+pub mod CarryOut
+pub mod Carrying

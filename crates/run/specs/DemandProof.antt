@@ -141,7 +141,7 @@ module _ (s : Settings) (memory₀ : List Float) (sound : faultAt s ≡ none) (b
       ∙ sym z)
 
 -- ---- begin
-clash : (n : ℕ) (r : Record) (k : ℕ) → refusedBegin n ≡ accepted r k → ⊥
+pub clash : (n : ℕ) (r : Record) (k : ℕ) → refusedBegin n ≡ accepted r k → ⊥
 clash n r k e = let z : _≡_ {A = ℕ} 0 1 = cc in omega arith
 
 module _ (s : Settings) (memory work frames : List Float) where

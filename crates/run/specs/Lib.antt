@@ -1,8 +1,12 @@
+pub mod AdvanceLaws
 pub mod Answers
 pub mod Ascii
+pub mod BeginLaws
 pub mod Bytes
 pub mod Calls
 pub mod CallsLaws
+pub mod CarryOut
+pub mod CarryOutLaws
 pub mod Clock
 pub mod ClockLaws
 pub mod Demand
@@ -13,6 +17,8 @@ pub mod Frames
 pub mod FramesLaws
 pub mod Inputs
 pub mod InputsLaws
+pub mod Lines
+pub mod LinesLaws
 pub mod Model
 pub mod ModelLaws
 pub mod OneCall
@@ -21,6 +27,8 @@ pub mod OrderExamples
 pub mod OrderForm
 pub mod OrderFormLaws
 pub mod OrderLaws
+pub mod OrderLines
+pub mod OrderLinesLaws
 pub mod Outcome
 pub mod PlainRun
 pub mod PlainRunLaws

@@ -1,5 +1,5 @@
 -- All that proofs may use of the definitions of Model.antt.
-use Prim.Native.Nat.{ℕ, _<_}
+use Prim.Native.Nat.{ℕ, _<_, _≤_}
 use mathlib.Core.Bool.{true, false}
 use mathlib.Core.List.{List}
 use mathlib.Core.Option.{Option, none, some}
@@ -13,7 +13,7 @@ use Rattle.physics.specs.State.{State}
 use Rattle.physics.specs.StateLaws.{Sized}
 use Rattle.run.specs.declared.settings.Settings.{Settings}
 use Rattle.run.specs.ClockLaws.{step-skipped}
-use Rattle.run.specs.FramesLaws.{length-frame, frame-size-positive}
+use Rattle.run.specs.FramesLaws.{frame-size-accepted, length-frame, frame-size-positive}
 use Rattle.run.specs.InputsLaws.{Accepted, accepted}
 use Rattle.run.specs.Model.{faultAt, frameCount, firstState, deltaNext, framesNext, stepOf, nextState, frameOf}
 
@@ -36,6 +36,10 @@ module _ (s : Settings) (sound : faultAt s ≡ none) where
   pub frame-some : 0 < frameCount s
   unfolding frameCount
   frame-some = frame-size-positive s
+
+  pub frame-large : 6 ≤ frameCount s
+  unfolding frameCount
+  frame-large = omega (arith, frame-size-accepted sound-settings)
 
   pub firstState-sized : Sized (pointsOf (s .level)) (firstState s)
   unfolding firstState

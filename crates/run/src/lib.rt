@@ -1,6 +1,7 @@
 // Runs with budgeted advance.
 pub mod adaptive_time_step;
 mod bytes;
+pub mod carry_out;
 mod model;
 pub mod order;
 pub mod report;

@@ -6,6 +6,7 @@ pub mod Bytes
 pub mod Calls
 pub mod CallsLaws
 pub mod CarryOut
+pub mod CarryOutEnds
 pub mod CarryOutLaws
 pub mod Clock
 pub mod ClockLaws

@@ -1,0 +1,79 @@
+use borrow.Author.Needs.{needs}
+use Rattle.collapse.proofs.read_input.Statement.{statement}
+use Rattle.collapse.proofs.read_input.Tie as tie
+use Rattle.collapse.proofs.read_input.Reads as reads
+use Rattle.collapse.proofs.read_input.Lts as lts
+use Rattle.libc.proofs.read.Reads as read-reads
+
+abbrev Inv-loop : tie.InvT-loop
+Inv-loop buffer₀ most count₀ buffer count = ?
+
+abbrev μ-loop : tie.MeasureT-loop
+μ-loop buffer₀ most count₀ buffer count = ?
+
+loop-holds : tie.Need-loop-holds Inv-loop μ-loop
+loop-holds c = search needs
+
+sub-read : tie.Need-sub-read Inv-loop μ-loop
+sub-read c = search needs
+
+part-read-start : tie.Need-part-read-start Inv-loop μ-loop
+part-read-start c = search needs
+
+part-read-end : tie.Need-part-read-end Inv-loop μ-loop
+part-read-end c = search needs
+
+read-requires : tie.Need-read-requires Inv-loop μ-loop
+read-requires c κs = search needs
+
+same-length : tie.Need-same-length Inv-loop μ-loop
+same-length c = search needs
+
+returns : tie.Need-returns Inv-loop μ-loop
+returns c = search needs
+
+same-length-2 : tie.Need-same-length-2 Inv-loop μ-loop
+same-length-2 c = search needs
+
+returns-2 : tie.Need-returns-2 Inv-loop μ-loop
+returns-2 c = search needs
+
+cast-count : tie.Need-cast-count Inv-loop μ-loop
+cast-count c = search needs
+
+add-count : tie.Need-add-count Inv-loop μ-loop
+add-count c = search needs
+
+loop-less : tie.Need-loop-less Inv-loop μ-loop
+loop-less c = search needs
+
+loop-again : tie.Need-loop-again Inv-loop μ-loop
+loop-again c = search needs
+
+same-length-3 : tie.Need-same-length-3 Inv-loop μ-loop
+same-length-3 c = search needs
+
+returns-3 : tie.Need-returns-3 Inv-loop μ-loop
+returns-3 c = search needs
+
+pub read-input-spec : {M : Type 1} → statement M
+read-input-spec =
+    tie.close
+    (tie.spec
+    Inv-loop
+    μ-loop
+    loop-holds
+    sub-read
+    part-read-start
+    part-read-end
+    read-requires
+    same-length
+    returns
+    same-length-2
+    returns-2
+    cast-count
+    add-count
+    loop-less
+    loop-again
+    same-length-3
+    returns-3)

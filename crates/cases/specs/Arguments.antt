@@ -45,7 +45,7 @@ infiniteOf i u = cond (eqb (i % 11) 5) (div binary64 u (whole 0)) u
 unfoldable pub missingOf : ℕ → Float → Float
 missingOf i u = cond (eqb (i % 13) 6) nan u
 
--- u, with +infinity at point kind - 16
+-- u, with +infinity at point kind - 16 of every 4096
 unfoldable pub spikeOf : ℕ → ℕ → Float → Float
 spikeOf kind i u = cond (eqb (i % 4096 + 16) kind) (inf false) u
 

@@ -32,7 +32,7 @@ fn unit(s: u64) -> f64
     of_bits(0x3FF0000000000000 + pattern(s) % 4503599627370496) * 2.0 - 3.0
 }
 
-// u, with +infinity at point kind - 16.
+// u, with +infinity at point kind - 16 of every 4096.
 fn spike(kind: u32, i: usize, u: f64) -> f64
     ensures { λ r. ⌜ r ≡ spikeOf kind i u ⌝ }
 {

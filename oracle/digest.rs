@@ -1,4 +1,4 @@
-//! Bits of floats and the digest of a list of them. crates/cases/src/digest.rt does the same.
+//! Bits of floats and the digest of a list of them, as in crates/vectors/src/bits.rt and crates/cases/src/digest.rt.
 
 /// A prime below 2^40, so that every product below fits 64 bits.
 pub const PRIME: u64 = 1099511627689;

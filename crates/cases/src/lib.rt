@@ -1,4 +1,3 @@
-// What the case programs share: digests of floats, the arguments of cases, the parts of a line.
+// What the case programs share: digests of floats and the arguments of cases.
 pub mod arguments;
 pub mod digest;
-pub mod print;

@@ -3,6 +3,7 @@ pub mod BoundaryLaws
 pub mod Built
 pub mod ConstraintLaws
 pub mod Constraints
+pub mod DifferenceLaws
 pub mod EquationLaws
 pub mod Equations
 pub mod Fills

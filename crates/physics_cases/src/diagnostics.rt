@@ -1,7 +1,6 @@
 // The black hole mass and the total energy of lent vectors.
 use crate::states;
 use cases::arguments;
-use cases::print;
 use physics::constraints::black_hole_mass;
 
 pub fn all() {
@@ -31,23 +30,29 @@ fn case(level: u32, kind: u32) {
 fn on_parts(level: u32, kind: u32, radial_factor: &mut [f64], mass: &mut [f64]) {
     arguments::vector(level, kind, radial_factor);
     arguments::vector(level, (kind % 11 + 1) % 11, mass);
-    print::text(b"diagnostics");
-    print::level_and_vector(level, kind);
+    heading(level, kind);
     states::diagnostics(radial_factor, mass);
-    print::end();
+    io::write_all(1, b"\n");
+}
+
+fn heading(level: u32, kind: u32) {
+    io::write_all(1, b"diagnostics level ");
+    io::print_decimal(1, level as u64);
+    io::write_all(1, b" vector ");
+    io::print_decimal(1, kind as u64);
 }
 
 // A mass that has no number where one is asked for.
 fn short() {
     short_mass(&[1.0, 1.0], &[0.5]);
     short_mass(&[1.0, 0.0], &[0.5]);
-    print::text(b"short");
+    io::write_all(1, b"short");
     states::energy(&[]);
-    print::end();
+    io::write_all(1, b"\n");
 }
 
 fn short_mass(radial_factor: &[f64], mass: &[f64]) {
-    print::text(b"short");
+    io::write_all(1, b"short");
     states::formed(black_hole_mass(radial_factor, mass));
-    print::end();
+    io::write_all(1, b"\n");
 }

@@ -3,10 +3,9 @@
 use crate::memories::keep;
 use crate::states;
 use cases::arguments;
-use cases::digest::of_bits;
-use cases::print;
 use physics::integration::Stepped;
 use physics::integration::rk4_step;
+use vectors::bits::of_bits;
 
 // Times, and steps over the base, as in oracle/physics/forged.rs.
 const TIMES: [u64; 8] = [
@@ -52,12 +51,12 @@ fn replacements(level: u32, seed: u64) {
 }
 
 fn replacement(level: u32, seed: u64, replaced: u64) {
-    print::text(b"forged");
-    print::level(level);
-    print::text(b" seed");
-    print::decimal(seed);
-    print::text(b" replaced");
-    print::decimal(replaced);
+    io::write_all(1, b"forged level ");
+    io::print_decimal(1, level as u64);
+    io::write_all(1, b" seed ");
+    io::print_decimal(1, seed);
+    io::write_all(1, b" replaced ");
+    io::print_decimal(1, replaced);
     case(level, seed, replaced, 3.7, 1.0);
 }
 
@@ -70,10 +69,10 @@ fn times() {
 }
 
 fn timed(time: u64, factor: u64) {
-    print::text(b"forged level 5 time");
-    print::bits(time);
-    print::text(b" factor");
-    print::bits(factor);
+    io::write_all(1, b"forged level 5 time ");
+    io::print_hex(1, time, 16);
+    io::write_all(1, b" factor ");
+    io::print_hex(1, factor, 16);
     case(5, 1, 8, of_bits(time), of_bits(factor));
 }
 
@@ -111,8 +110,9 @@ fn step(
     let stepped = rk4_step(level, time, delta, state, work);
     match stepped {
         Stepped::To(next) => arrive(level, next, state, work),
-        Stepped::RefusedLevel => print::text(b" refused\n"),
-        Stepped::RefusedLength => print::text(b" refused\n"),
+        _ => {
+            io::write_all(1, b" refused\n");
+        }
     }
 }
 

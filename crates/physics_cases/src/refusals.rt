@@ -2,12 +2,11 @@
 // numbers of state memory and 1320 of work memory; there are 300 and 1400, of which a call gets the first.
 use crate::states;
 use cases::arguments;
-use cases::digest::bits_of;
 use cases::digest::digest;
-use cases::print;
 use physics::integration::Stepped;
 use physics::integration::rk4_step;
 use vectors::answer::Answer;
+use vectors::bits::bits_of;
 
 pub fn all() {
     steps();
@@ -63,8 +62,8 @@ fn step_in(level: u32, of_state: usize, of_work: usize, state: &[f64], work: &mu
 
 fn stepped_to(time: f64, state: &[f64], work: &[f64]) {
     answer(0);
-    print::text(b" time");
-    print::bits(bits_of(time));
+    io::write_all(1, b" time ");
+    io::print_hex(1, bits_of(time), 16);
     left(digest(state));
     made(work);
 }
@@ -72,18 +71,19 @@ fn stepped_to(time: f64, state: &[f64], work: &[f64]) {
 fn refused(number: u64, state: &[f64], work: &[f64]) {
     answer(number);
     left(digest(state));
-    print::decimal(digest(work));
-    print::end();
+    io::write_all(1, b" ");
+    io::print_decimal(1, digest(work));
+    io::write_all(1, b"\n");
 }
 
 // The state that stands in work memory at level 5, and the numbers after its 40 vectors.
 fn made(work: &[f64]) {
     if 1320 <= work.len() {
-        print::text(b" made");
-        print::decimal(digest(&work[264..528]));
-        print::text(b" beyond");
-        print::decimal(digest(&work[1320..]));
-        print::end();
+        io::write_all(1, b" made ");
+        io::print_decimal(1, digest(&work[264..528]));
+        io::write_all(1, b" beyond ");
+        io::print_decimal(1, digest(&work[1320..]));
+        io::write_all(1, b"\n");
     }
 }
 
@@ -104,8 +104,8 @@ fn build(level: u32, of_work: usize) {
     let mut work = [0.0; 1400];
     arguments::list(5, 8, &mut work);
     heading(b"build_initial_state", level);
-    print::text(b" length");
-    print::decimal(of_work as u64);
+    io::write_all(1, b" length ");
+    io::print_decimal(1, of_work as u64);
     build_in(level, of_work, &mut work);
 }
 
@@ -121,7 +121,7 @@ fn build_in(level: u32, of_work: usize, work: &mut [f64]) {
             made(work);
         } else {
             left(digest(work));
-            print::end();
+            io::write_all(1, b"\n");
         }
     }
 }
@@ -160,8 +160,9 @@ fn store_in(level: u32, of_from: usize, of_state: usize, from: &[f64], state: &m
                 &mut state[0..of_state],
             )));
             left(digest(from));
-            print::decimal(digest(state));
-            print::end();
+            io::write_all(1, b" ");
+            io::print_decimal(1, digest(state));
+            io::write_all(1, b"\n");
         }
     }
 }
@@ -176,22 +177,24 @@ fn number(answer: Answer) -> u64 {
 }
 
 fn heading(name: &[u8], level: u32) {
-    print::text(name);
-    print::level(level);
+    io::write_all(1, name);
+    io::write_all(1, b" level ");
+    io::print_decimal(1, level as u64);
 }
 
 fn lengths(first: usize, second: usize) {
-    print::text(b" lengths");
-    print::decimal(first as u64);
-    print::decimal(second as u64);
+    io::write_all(1, b" lengths ");
+    io::print_decimal(1, first as u64);
+    io::write_all(1, b" ");
+    io::print_decimal(1, second as u64);
 }
 
 fn answer(number: u64) {
-    print::text(b" answer");
-    print::decimal(number);
+    io::write_all(1, b" answer ");
+    io::print_decimal(1, number);
 }
 
 fn left(d: u64) {
-    print::text(b" left");
-    print::decimal(d);
+    io::write_all(1, b" left ");
+    io::print_decimal(1, d);
 }

@@ -1,12 +1,11 @@
 // Runs from the initial state with a constant step. A run ends after its last step or at a state with a NaN.
 use crate::memories::keep;
 use crate::states;
-use cases::digest::bits_of;
-use cases::print;
 use physics::integration::Stepped;
 use physics::integration::rk4_step;
 use physics::state::has_nan;
 use physics::state_builder::build_initial_state;
+use vectors::bits::bits_of;
 
 // As in oracle/physics/runs.rs.
 const AMPLITUDES: [f64; 13] = [
@@ -169,19 +168,19 @@ fn is_printed(steps: u32, broken: bool) -> bool {
 
 fn line(case: Case, steps: u32, time: f64, state: &[f64]) {
     heading(case);
-    print::text(b" steps");
-    print::decimal(steps as u64);
+    io::write_all(1, b" steps ");
+    io::print_decimal(1, steps as u64);
     states::rest(time, state);
 }
 
 fn heading(case: Case) {
-    print::text(b"run");
-    print::level(case.level);
-    print::text(b" amplitude");
-    print::bits(bits_of(case.amplitude));
+    io::write_all(1, b"run level ");
+    io::print_decimal(1, case.level as u64);
+    io::write_all(1, b" amplitude ");
+    io::print_hex(1, bits_of(case.amplitude), 16);
     if case.slowed {
-        print::text(b" slowed");
+        io::write_all(1, b" slowed");
     } else {
-        print::text(b" base");
+        io::write_all(1, b" base");
     }
 }

@@ -1,11 +1,10 @@
 // What is printed of a state: state memory has its eight vectors and nothing else.
-use cases::digest::bits_of;
 use cases::digest::digest;
-use cases::print;
 use physics::constraints::BlackHole;
 use physics::constraints::black_hole_mass;
 use physics::state::has_nan;
 use physics::state::total_energy;
+use vectors::bits::bits_of;
 
 // The clock's base: h × 0.95.
 pub fn base(level: u32) -> f64 {
@@ -14,20 +13,19 @@ pub fn base(level: u32) -> f64 {
 
 // The rest of a state's line, after the case.
 pub fn rest(time: f64, state: &[f64]) {
-    print::text(b" time");
-    print::bits(bits_of(time));
-    print::text(b" vectors");
+    io::write_all(1, b" time ");
+    io::print_hex(1, bits_of(time), 16);
+    io::write_all(1, b" vectors");
     digests(state);
     ends(state);
     nan(has_nan(time, state));
-    print::end();
 }
 
 fn nan(found: bool) {
     if found {
-        print::text(b" nan yes");
+        io::write_all(1, b" nan yes\n");
     } else {
-        print::text(b" nan no");
+        io::write_all(1, b" nan no\n");
     }
 }
 
@@ -46,7 +44,8 @@ fn digests(state: &[f64]) {
 fn one(state: &[f64], from: usize, to: usize) {
     if from <= to {
         if to <= state.len() {
-            print::decimal(digest(&state[from..to]));
+            io::write_all(1, b" ");
+            io::print_decimal(1, digest(&state[from..to]));
         }
     }
 }
@@ -65,14 +64,18 @@ pub fn diagnostics(radial_factor: &[f64], mass: &[f64]) {
 }
 
 pub fn energy(mass: &[f64]) {
-    print::text(b" energy");
-    print::bits(bits_of(total_energy(mass)));
+    io::write_all(1, b" energy ");
+    io::print_hex(1, bits_of(total_energy(mass)), 16);
 }
 
 pub fn formed(hole: BlackHole) {
-    print::text(b" mass");
     match hole {
-        BlackHole::Formed(m) => print::bits(bits_of(m)),
-        BlackHole::Absent => print::text(b" none"),
+        BlackHole::Formed(m) => {
+            io::write_all(1, b" mass ");
+            io::print_hex(1, bits_of(m), 16);
+        }
+        BlackHole::Absent => {
+            io::write_all(1, b" mass none");
+        }
     }
 }

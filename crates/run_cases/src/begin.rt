@@ -5,11 +5,10 @@ use crate::session::Session;
 use crate::session::begin_filled;
 use crate::settings::least_bits;
 use crate::settings::settings;
-use cases::digest::of_bits;
-use cases::print;
 use run::settings::Settings;
 use run::simulate::Answer;
 use std::num::wrapping_sub_u64;
+use vectors::bits::of_bits;
 
 pub fn all(state: &mut [f64], work: &mut [f64], frames: &mut [f64]) {
     by_settings(state, work, frames);
@@ -57,8 +56,8 @@ fn levels(state: &mut [f64], work: &mut [f64], frames: &mut [f64]) {
 }
 
 fn level(n: u32, state: &mut [f64], work: &mut [f64], frames: &mut [f64]) {
-    print::text(b"begin");
-    print::level(n);
+    io::write_all(1, b"begin level ");
+    io::print_decimal(1, n as u64);
     line(
         settings(20.0, n, 1.0, 1.0, 5, false),
         whole(),
@@ -81,8 +80,8 @@ fn two_intervals(level: u32, b: u64, state: &mut [f64], work: &mut [f64], frames
 }
 
 fn least_interval(level: u32, b: u64, state: &mut [f64], work: &mut [f64], frames: &mut [f64]) {
-    print::text(b"begin");
-    print::level(level);
+    io::write_all(1, b"begin level ");
+    io::print_decimal(1, level as u64);
     interval(level, b, state, work, frames);
 }
 
@@ -103,13 +102,13 @@ fn intervals(state: &mut [f64], work: &mut [f64], frames: &mut [f64]) {
 }
 
 fn interval_alone(b: u64, state: &mut [f64], work: &mut [f64], frames: &mut [f64]) {
-    print::text(b"begin");
+    io::write_all(1, b"begin");
     interval(5, b, state, work, frames);
 }
 
 fn interval(level: u32, b: u64, state: &mut [f64], work: &mut [f64], frames: &mut [f64]) {
-    print::text(b" interval");
-    print::bits(b);
+    io::write_all(1, b" interval ");
+    io::print_hex(1, b, 16);
     line(
         settings(20.0, level, 1.0, of_bits(b), 5, false),
         whole(),
@@ -127,8 +126,8 @@ fn dx_levels(state: &mut [f64], work: &mut [f64], frames: &mut [f64]) {
 }
 
 fn dx_level(n: u32, state: &mut [f64], work: &mut [f64], frames: &mut [f64]) {
-    print::text(b"begin dx");
-    print::decimal(n as u64);
+    io::write_all(1, b"begin dx ");
+    io::print_decimal(1, n as u64);
     line(
         settings(20.0, 5, 1.0, 1.0, n, false),
         whole(),
@@ -165,10 +164,8 @@ fn lent_of(i: u32) -> Lent {
 }
 
 fn length(lengths: Lent, skip: bool, state: &mut [f64], work: &mut [f64], frames: &mut [f64]) {
-    print::text(b"begin lent");
-    print::decimal(lengths.state as u64);
-    print::decimal(lengths.work as u64);
-    print::decimal(lengths.frames as u64);
+    io::write_all(1, b"begin");
+    lines::lent(lengths);
     skipped(skip);
     line(
         settings(20.0, 5, 1.0, 1.0, 5, skip),
@@ -180,7 +177,7 @@ fn length(lengths: Lent, skip: bool, state: &mut [f64], work: &mut [f64], frames
 }
 
 fn skipped(skip: bool) {
-    print::text(b" skip");
+    io::write_all(1, b" skip");
     lines::flag(skip);
 }
 
@@ -227,10 +224,10 @@ fn amplitude(
     work: &mut [f64],
     frames: &mut [f64],
 ) {
-    print::text(b"begin");
-    print::level(level);
-    print::text(b" amplitude");
-    print::bits(b);
+    io::write_all(1, b"begin level ");
+    io::print_decimal(1, level as u64);
+    io::write_all(1, b" amplitude ");
+    io::print_hex(1, b, 16);
     skipped(skip);
     line(
         settings(of_bits(b), level, 1.0, 1.0, 0, skip),
@@ -249,8 +246,8 @@ fn orders(state: &mut [f64], work: &mut [f64], frames: &mut [f64]) {
 }
 
 fn order(k: u32, state: &mut [f64], work: &mut [f64], frames: &mut [f64]) {
-    print::text(b"begin order");
-    print::decimal(k as u64);
+    io::write_all(1, b"begin order ");
+    io::print_decimal(1, k as u64);
     line(faulty(k), faulty_lent(k), state, work, frames);
 }
 
@@ -298,13 +295,13 @@ fn answer_of(z: Session) -> bool {
 }
 
 fn refused(number: u8) -> bool {
-    print::text(b" refused");
-    print::decimal(number as u64);
+    io::write_all(1, b" refused ");
+    io::print_decimal(1, number as u64);
     number == 13
 }
 
 fn accepted(count: u64) -> bool {
-    print::text(b" accepted");
-    print::decimal(count);
+    io::write_all(1, b" accepted ");
+    io::print_decimal(1, count);
     true
 }

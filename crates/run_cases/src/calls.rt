@@ -15,7 +15,6 @@ use crate::settings::case_of;
 use crate::settings::draw;
 use cases::arguments::after;
 use cases::digest::mixed;
-use cases::print;
 use run::settings::Settings;
 
 const CALLED: [u32; 9] = [3, 5, 6, 12, 13, 23, 24, 27, 33];
@@ -187,18 +186,15 @@ fn room(which: u32, size: usize) -> usize
 
 fn first_line(k: u32, s: Settings, z: Session, state: &[f64], work: &[f64], frames: &[f64]) {
     lines::case(k);
-    print::text(b" begin");
-    print::decimal(z.frames);
+    io::write_all(1, b" begin ");
+    io::print_decimal(1, z.frames);
     lines::memories(s.level, true, state, work, frames);
 }
 
 fn asked(budget: u32, lent: Lent) {
-    print::text(b" advance");
-    print::decimal(budget as u64);
-    print::text(b" lent");
-    print::decimal(lent.state as u64);
-    print::decimal(lent.work as u64);
-    print::decimal(lent.frames as u64);
+    io::write_all(1, b" advance ");
+    io::print_decimal(1, budget as u64);
+    lines::lent(lent);
 }
 
 // The answer, the record and the memories after a call.

@@ -1,16 +1,16 @@
 // An advance on a record or a state that no run has, as in oracle/run/forged.rs.
 ghost use Prim.Native.Nat.{_≤_};
 use crate::calls::left;
+use crate::lines::decimal;
 use crate::memories::Lent;
 use crate::memories::fill_work;
 use crate::session::Session;
 use crate::session::advance;
 use crate::session::begin_filled;
 use crate::settings::settings;
-use cases::digest::of_bits;
-use cases::print;
 use run::settings::Record;
 use run::settings::Settings;
+use vectors::bits::of_bits;
 
 pub fn all(state: &mut [f64], work: &mut [f64], frames: &mut [f64]) {
     states(state, work, frames);
@@ -100,10 +100,11 @@ fn ran_with(at: usize, x: f64, state: &mut [f64], work: &mut [f64], frames: &mut
 }
 
 fn state_name(vector: usize, entry: usize, b: u64) {
-    print::text(b"forged state");
-    print::decimal(vector as u64);
-    print::decimal(entry as u64);
-    print::bits(b);
+    io::write_all(1, b"forged state ");
+    io::print_decimal(1, vector as u64);
+    decimal(entry as u64);
+    io::write_all(1, b" ");
+    io::print_hex(1, b, 16);
 }
 
 fn set(values: &mut [f64], at: usize, x: f64) {
@@ -180,11 +181,11 @@ fn forged_record(
 }
 
 fn record_name(field: u32, value: u64, budget: u32) {
-    print::text(b"forged record");
-    print::decimal(field as u64);
-    print::decimal(value);
-    print::text(b" advance");
-    print::decimal(budget as u64);
+    io::write_all(1, b"forged record ");
+    io::print_decimal(1, field as u64);
+    decimal(value);
+    io::write_all(1, b" advance ");
+    io::print_decimal(1, budget as u64);
 }
 
 fn forged(r: Record, field: u32, value: u64) -> Record {

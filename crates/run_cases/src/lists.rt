@@ -16,7 +16,6 @@ use crate::settings::case_of;
 use crate::settings::draw;
 use cases::arguments::after;
 use cases::digest::mixed;
-use cases::print;
 use run::settings::Settings;
 
 pub fn all(state: &mut [f64], work: &mut [f64], frames: &mut [f64]) {
@@ -253,23 +252,23 @@ fn line(k: u32, list: u32, z: Session, state: &[f64]) {
     lines::case(k);
     counts(list, z);
     lines::name(answer);
-    print::decimal(record.steps as u64);
-    lines::time(record.time);
+    lines::decimal(record.steps as u64);
+    lines::float(record.time);
     lines::mass(answer);
     state_digest(record.time, state_size(s.level), state);
     lines::joined(z);
-    print::end();
+    io::write_all(1, b"\n");
 }
 
 fn counts(list: u32, z: Session) {
-    print::text(b" list");
-    print::decimal(list as u64);
-    print::text(b" calls");
-    print::decimal(z.calls);
-    print::text(b" full");
-    print::decimal(z.full);
-    print::text(b" refused");
-    print::decimal(z.refused);
+    io::write_all(1, b" list ");
+    io::print_decimal(1, list as u64);
+    io::write_all(1, b" calls ");
+    io::print_decimal(1, z.calls);
+    io::write_all(1, b" full ");
+    io::print_decimal(1, z.full);
+    io::write_all(1, b" refused ");
+    io::print_decimal(1, z.refused);
 }
 
 fn state_digest(time: f64, size: usize, state: &[f64]) {

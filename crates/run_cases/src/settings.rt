@@ -2,8 +2,8 @@
 use cases::arguments::after;
 use cases::arguments::argument;
 use cases::digest::mixed;
-use cases::digest::of_bits;
 use run::settings::Settings;
+use vectors::bits::of_bits;
 
 pub struct Case {
     pub settings: Settings,

@@ -7,7 +7,6 @@ use crate::session::Session;
 use crate::session::begin;
 use crate::session::recalled;
 use crate::settings::case_of;
-use cases::print;
 
 const ENDING: [u32; 23] = [
     0,
@@ -58,10 +57,10 @@ fn line(k: u32, z: Session) {
     let record = z.record;
     let answer = z.answer;
     lines::case(k);
-    print::text(b" whole");
-    print::decimal(record.steps as u64);
-    lines::time(record.time);
+    io::write_all(1, b" whole ");
+    io::print_decimal(1, record.steps as u64);
+    lines::float(record.time);
     lines::mass(answer);
     lines::joined(z);
-    print::end();
+    io::write_all(1, b"\n");
 }

@@ -2,7 +2,6 @@
 use crate::functions;
 use cases::arguments;
 use cases::digest::digest;
-use cases::print;
 
 // Arguments whose rounded product with 256 × a lies half way between two whole numbers; oracle/vectors/ties.rs finds them.
 const TIES: [u64; 40] = [
@@ -67,9 +66,9 @@ fn ties() {
 
 // A tie, and the floats next to it.
 fn tie(b: u64) {
-    functions::line(b"exp tie", 0, b);
-    functions::line(b"exp tie", 0, std::num::wrapping_sub_u64(b, 1));
-    functions::line(b"exp tie", 0, std::num::wrapping_add_u64(b, 1));
+    functions::line(b"exp tie ", 0, b);
+    functions::line(b"exp tie ", 0, std::num::wrapping_sub_u64(b, 1));
+    functions::line(b"exp tie ", 0, std::num::wrapping_add_u64(b, 1));
 }
 
 // `exp_all` on the first numbers of a buffer.
@@ -83,8 +82,9 @@ fn mapped(length: usize) {
 fn mapped_over(values: &mut [f64]) {
     arguments::list(1, 101, values);
     vectors::exp::exp_all(values);
-    print::text(b"exp all");
-    print::decimal(values.len() as u64);
-    print::decimal(digest(values));
-    print::end();
+    io::write_all(1, b"exp all ");
+    io::print_decimal(1, values.len() as u64);
+    io::write_all(1, b" ");
+    io::print_decimal(1, digest(values));
+    io::write_all(1, b"\n");
 }

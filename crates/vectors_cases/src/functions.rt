@@ -1,9 +1,8 @@
 // exp, tan and the powers.
 use cases::arguments;
-use cases::digest::bits_of;
-use cases::digest::of_bits;
 use cases::digest::with;
-use cases::print;
+use vectors::bits::bits_of;
+use vectors::bits::of_bits;
 
 // As in oracle/arguments.rs.
 const SPECIAL: [u64; 36] = [
@@ -51,15 +50,15 @@ pub fn all() {
     function(b"square", 2, 4);
     function(b"fourth", 3, 4);
     function(b"reciprocal", 4, 4);
-    chunks(b"exp", b" whole range", 0, 1, 16);
-    chunks(b"exp", b" near zero", 0, 2, 16);
-    chunks(b"tan", b" quarter", 1, 3, 4);
-    chunks(b"tan", b" beyond", 1, 4, 4);
+    chunks(b"exp", b" whole range ", 0, 1, 16);
+    chunks(b"exp", b" near zero ", 0, 2, 16);
+    chunks(b"tan", b" quarter ", 1, 3, 4);
+    chunks(b"tan", b" beyond ", 1, 4, 4);
 }
 
 fn function(name: &[u8], which: u32, seeds: u64) {
     specials(name, which);
-    chunks(name, b" patterns", which, 0, seeds);
+    chunks(name, b" patterns ", which, 0, seeds);
 }
 
 fn answer(which: u32, x: f64) -> f64 {
@@ -75,30 +74,32 @@ fn answer(which: u32, x: f64) -> f64 {
 fn specials(name: &[u8], which: u32) {
     let table = SPECIAL;
     for i in 0..36 {
-        print::text(name);
-        line(b" special", which, table[i]);
+        io::write_all(1, name);
+        line(b" special ", which, table[i]);
     }
 }
 
 pub fn line(name: &[u8], which: u32, b: u64) {
-    print::text(name);
-    print::bits(b);
-    print::bits(bits_of(answer(which, of_bits(b))));
-    print::end();
+    io::write_all(1, name);
+    io::print_hex(1, b, 16);
+    io::write_all(1, b" ");
+    io::print_hex(1, bits_of(answer(which, of_bits(b))), 16);
+    io::write_all(1, b"\n");
 }
 
 fn chunks(name: &[u8], what: &[u8], which: u32, range: u32, seeds: u64) {
     for k in 0..seeds {
-        print::text(name);
+        io::write_all(1, name);
         chunk(what, which, range, k + 1);
     }
 }
 
 fn chunk(what: &[u8], which: u32, range: u32, seed: u64) {
-    print::text(what);
-    print::decimal(seed);
-    print::decimal(chunk_digest(which, range, seed));
-    print::end();
+    io::write_all(1, what);
+    io::print_decimal(1, seed);
+    io::write_all(1, b" ");
+    io::print_decimal(1, chunk_digest(which, range, seed));
+    io::write_all(1, b"\n");
 }
 
 fn chunk_digest(which: u32, range: u32, seed: u64) -> u64 {

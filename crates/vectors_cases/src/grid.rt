@@ -1,8 +1,7 @@
 // The constants, the grid and tan along the grid.
-use cases::digest::bits_of;
-use cases::digest::of_bits;
 use cases::digest::with;
-use cases::print;
+use vectors::bits::bits_of;
+use vectors::bits::of_bits;
 
 pub fn all() {
     constants();
@@ -13,50 +12,49 @@ pub fn all() {
 
 fn constants() {
     constant(
-        b"BH_RADIAL_FACTOR_TRACKING",
+        b"BH_RADIAL_FACTOR_TRACKING ",
         vectors::constants::BH_RADIAL_FACTOR_TRACKING,
     );
     constant(
-        b"BH_RADIAL_FACTOR_THRESHOLD",
+        b"BH_RADIAL_FACTOR_THRESHOLD ",
         vectors::constants::BH_RADIAL_FACTOR_THRESHOLD,
     );
-    constant(b"COURANT_NUMBER", vectors::constants::COURANT_NUMBER);
+    constant(b"COURANT_NUMBER ", vectors::constants::COURANT_NUMBER);
     constant(
-        b"BH_SLOWDOWN_FACTOR",
+        b"BH_SLOWDOWN_FACTOR ",
         vectors::constants::BH_SLOWDOWN_FACTOR,
     );
-    constant(b"EPS", vectors::constants::EPS);
+    constant(b"EPS ", vectors::constants::EPS);
     constant(
-        b"DISSIPATION_FACTOR",
+        b"DISSIPATION_FACTOR ",
         vectors::constants::DISSIPATION_FACTOR,
     );
     constant(
-        b"INITIAL_WAVE_STEEPNESS",
+        b"INITIAL_WAVE_STEEPNESS ",
         vectors::constants::INITIAL_WAVE_STEEPNESS,
     );
 }
 
 fn constant(name: &[u8], value: f64) {
-    print::text(b"constant ");
-    print::text(name);
-    print::bits(bits_of(value));
-    print::end();
+    io::write_all(1, b"constant ");
+    io::write_all(1, name);
+    io::print_hex(1, bits_of(value), 16);
+    io::write_all(1, b"\n");
 }
 
 fn grid(level: u32) {
     let n = vectors::grid::length_at_discretization(level);
     count(b"grid", level, n);
-    float(b"grid", level, b" delta", vectors::grid::delta(level));
-    along(b" points", level, points(level, n));
-    along(b" tangents", level, tangents(level, n));
+    float(b"grid", level, b" delta ", vectors::grid::delta(level));
+    along(b" points ", level, points(level, n));
+    along(b" tangents ", level, tangents(level, n));
 }
 
 fn along(what: &[u8], level: u32, d: u64) {
-    print::text(b"grid");
-    print::level(level);
-    print::text(what);
-    print::decimal(d);
-    print::end();
+    heading(b"grid", level);
+    io::write_all(1, what);
+    io::print_decimal(1, d);
+    io::write_all(1, b"\n");
 }
 
 // The digest of the first n points.
@@ -78,18 +76,22 @@ fn tangents(level: u32, n: usize) -> u64 {
     d
 }
 
+pub fn heading(name: &[u8], level: u32) {
+    io::write_all(1, name);
+    io::write_all(1, b" level ");
+    io::print_decimal(1, level as u64);
+}
+
 pub fn count(name: &[u8], level: u32, n: usize) {
-    print::text(name);
-    print::level(level);
-    print::text(b" length");
-    print::decimal(n as u64);
-    print::end();
+    heading(name, level);
+    io::write_all(1, b" length ");
+    io::print_decimal(1, n as u64);
+    io::write_all(1, b"\n");
 }
 
 pub fn float(name: &[u8], level: u32, what: &[u8], value: f64) {
-    print::text(name);
-    print::level(level);
-    print::text(what);
-    print::bits(bits_of(value));
-    print::end();
+    heading(name, level);
+    io::write_all(1, what);
+    io::print_hex(1, bits_of(value), 16);
+    io::write_all(1, b"\n");
 }

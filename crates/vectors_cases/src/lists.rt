@@ -1,7 +1,7 @@
 // The minimum, and the first index at or below a bound.
-use cases::digest::bits_of;
-use cases::digest::of_bits;
-use cases::print;
+use crate::stencils::heading;
+use vectors::bits::bits_of;
+use vectors::bits::of_bits;
 use vectors::field_vector::Position;
 
 const BOUNDS: [u64; 7] = [
@@ -21,15 +21,14 @@ pub fn print(level: u32, kind: u32, values: &[f64]) {
 }
 
 fn least(level: u32, kind: u32, values: &[f64]) {
-    print::text(b"min");
-    print::level_and_vector(level, kind);
-    print::bits(bits_of(vectors::field_vector::min(values)));
-    print::end();
+    heading(b"min", level, kind);
+    io::write_all(1, b" ");
+    io::print_hex(1, bits_of(vectors::field_vector::min(values)), 16);
+    io::write_all(1, b"\n");
 }
 
 fn threshold(level: u32, kind: u32, values: &[f64]) {
-    print::text(b"threshold");
-    print::level_and_vector(level, kind);
+    heading(b"threshold", level, kind);
     index(vectors::field_vector::position_at_or_below(
         values,
         vectors::constants::BH_RADIAL_FACTOR_THRESHOLD,
@@ -44,18 +43,23 @@ fn bounds(level: u32, kind: u32, values: &[f64]) {
 }
 
 fn bound(level: u32, kind: u32, values: &[f64], b: u64) {
-    print::text(b"bound");
-    print::bits(b);
-    print::level_and_vector(level, kind);
+    io::write_all(1, b"bound ");
+    io::print_hex(1, b, 16);
+    heading(b"", level, kind);
     index(vectors::field_vector::position_at_or_below(values, of_bits(b)));
 }
 
 fn index(at: Position) {
     match at {
-        Position::At(i) => print::decimal(i as u64),
-        Position::Nowhere => print::text(b" none"),
+        Position::At(i) => {
+            io::write_all(1, b" ");
+            io::print_decimal(1, i as u64);
+        }
+        Position::Nowhere => {
+            io::write_all(1, b" none");
+        }
     }
-    print::end();
+    io::write_all(1, b"\n");
 }
 
 pub fn shorts() {
@@ -78,9 +82,8 @@ pub fn shorts() {
 }
 
 fn short(values: &[f64]) {
-    print::text(b"short min");
-    print::bits(bits_of(vectors::field_vector::min(values)));
-    print::end();
-    print::text(b"short threshold");
+    io::write_all(1, b"short min ");
+    io::print_hex(1, bits_of(vectors::field_vector::min(values)), 16);
+    io::write_all(1, b"\nshort threshold");
     index(vectors::field_vector::position_at_or_below(values, 0.01));
 }

@@ -3,7 +3,6 @@ use crate::grid;
 use crate::stencils;
 use cases::arguments;
 use cases::digest::digest;
-use cases::print;
 use vectors::answer::Answer;
 
 pub fn all() {
@@ -136,21 +135,23 @@ fn number(answer: Answer) -> u64 {
 
 // The answer, and what the memories hold after the call.
 fn line(answer: u64, vector: u64, half: u64, out: u64) {
-    print::text(b" answer");
-    print::decimal(answer);
-    print::text(b" left");
-    print::decimal(vector);
-    print::decimal(half);
-    print::decimal(out);
-    print::end();
+    io::write_all(1, b" answer ");
+    io::print_decimal(1, answer);
+    io::write_all(1, b" left ");
+    io::print_decimal(1, vector);
+    io::write_all(1, b" ");
+    io::print_decimal(1, half);
+    io::write_all(1, b" ");
+    io::print_decimal(1, out);
+    io::write_all(1, b"\n");
 }
 
 fn lengths(name: &[u8], level: u32, length: usize, room: usize) {
-    print::text(name);
-    print::level(level);
-    print::text(b" lengths");
-    print::decimal(length as u64);
-    print::decimal(room as u64);
+    grid::heading(name, level);
+    io::write_all(1, b" lengths ");
+    io::print_decimal(1, length as u64);
+    io::write_all(1, b" ");
+    io::print_decimal(1, room as u64);
 }
 
 fn outside(level: u32) {
@@ -159,12 +160,17 @@ fn outside(level: u32) {
         level,
         vectors::grid::length_at_discretization(level),
     );
-    grid::float(b"outside", level, b" delta", vectors::grid::delta(level));
-    grid::float(b"outside", level, b" point", vectors::grid::point(level, 0));
+    grid::float(b"outside", level, b" delta ", vectors::grid::delta(level));
+    grid::float(
+        b"outside",
+        level,
+        b" point ",
+        vectors::grid::point(level, 0),
+    );
 }
 
 // The point after the last.
 fn beyond(level: u32) {
     let n = vectors::grid::length_at_discretization(level);
-    grid::float(b"beyond", level, b" point", vectors::grid::point(level, n));
+    grid::float(b"beyond", level, b" point ", vectors::grid::point(level, n));
 }

@@ -1,6 +1,6 @@
 // The stencils.
+use crate::grid;
 use cases::digest::digest;
-use cases::print;
 use vectors::answer::Answer;
 
 pub fn print(level: u32, kind: u32, values: &[f64]) {
@@ -54,8 +54,14 @@ pub fn apply(stencil: u32, level: u32, vector: &[f64], out: &mut [f64]) -> Answe
 }
 
 fn line(name: &[u8], level: u32, kind: u32, d: u64) {
-    print::text(name);
-    print::level_and_vector(level, kind);
-    print::decimal(d);
-    print::end();
+    heading(name, level, kind);
+    io::write_all(1, b" ");
+    io::print_decimal(1, d);
+    io::write_all(1, b"\n");
+}
+
+pub fn heading(name: &[u8], level: u32, kind: u32) {
+    grid::heading(name, level);
+    io::write_all(1, b" vector ");
+    io::print_decimal(1, kind as u64);
 }

@@ -1,14 +1,13 @@
 -- `compute_radial_gradient` meets its contract.
-use mathlib.Core.Path.{_≡_, refl, sym, ap, _∙_}
+use mathlib.Core.Path.{_≡_, refl}
 use Prim.Native.Nat.{_≤_, _-_, _+_, _*_}
-use native.Mathlib.Nat.{add-zero}
 use native.Mathlib.Omega.{arith}
 use lib.ListN.{length, length-set}
-use lib.Ieee.{nan}
-use Rattle.vectors.specs.MemoryLaws.{Grown, grown-none, grown-step, filled-none, step, step-at, filled-put}
+use Rattle.vectors.specs.MemoryLaws.{Grown, grown-none}
 use Rattle.vectors.specs.Stencil.{diffOf, diffAt, diffLeft0, diffLeft1, diffInner, diffRight1, diffRight0}
-use Rattle.vectors.specs.StencilLaws.{length-diffOf, diff-left0, diff-left1, diff-inner, diff-right1, diff-right0}
-use Rattle.physics.specs.Slots.{slots, lends, lent-slot, length-slot, wrote}
+use Rattle.vectors.specs.StencilLaws.{diff-left0, diff-left1, diff-inner, diff-right1, diff-right0}
+use Rattle.physics.specs.Slots.{slots}
+use Rattle.physics.specs.DifferenceLaws.{difference-turn, difference-pass}
 use borrow.Author.Needs.{needs}
 use Rattle.physics.proofs.constraint_computer.compute_radial_gradient.Statement.{statement}
 use Rattle.physics.proofs.constraint_computer.compute_radial_gradient.Tie as tie
@@ -24,40 +23,28 @@ loop-again : tie.Need-loop-again Inv-loop μ-loop
 unfolding diffInner
 loop-again c =
     let turn = c .before .before .before .before in
-    let a = turn .before .before .before .before .before .before .before .before .args in
-    let n = a .n in
-    let i = turn .loop .i in
-    let e : 1 * n ≡ 0 * n + n = omega arith in (
+    let a = turn .before .before .before .before .before .before .before .before .args in (
       omega arith,
       omega arith,
       simp length-set (omega arith),
-      grown-step (turn .loop .inv .3) refl (λ E f.
-          let is = lends n 8 0 (1 * n) f (omega arith) refl e in
-          let long = ap length (sym is) ∙ ap length (lent-slot n 0 (1 * n) _ e) ∙ length-slot n 0 (turn .loop .w) (omega arith) in
-          diff-inner (a .h) n _ _ long is i (omega arith) (omega arith) (c .row5-hollow .ensures)),
+      difference-turn (a .n) 8 (diffAt (a .h)) (turn .loop .inv .3) (omega arith) (omega arith) refl (λ xs long is.
+          diff-inner (a .h) _ xs _ long is _ (omega arith) (omega arith) (c .row5-hollow .ensures)),
     )
 
 returns : tie.Need-returns Inv-loop μ-loop
 unfolding diffOf diffLeft0 diffLeft1 diffRight1 diffRight0
 returns c =
-    let turn = c .before in
-    let rows = turn .before in
+    let rows = c .before .before in
     let start = rows .before .before .before .before .before .before .before in
     let pre = start .pre in
-    let a = start .args in
-    let n = a .n in
-    let w = a .w .now in
-    let xs = slots n w 0 in
-    let e : 1 * n ≡ 0 * n + n = omega arith in
-    let is = lent-slot n 0 (1 * n) w e in
-    let long = length-slot n 0 w (omega arith) in
-    let F = turn .loop .inv .3 .grow w
-    (step (step (filled-none _ (diffAt (a .h) xs) w) (sym (add-zero _)) (diff-left0 (a .h) n xs _ long is (rows .before .before .before .row5 .ensures))) refl
-    (diff-left1 (a .h) n xs _ long is (rows .before .before .row52 .ensures))) in
-    wrote n 8 (λ S. diffOf (a .h) (S 0)) w _ (length-diffOf (a .h) xs ∙ long) (omega arith)
-    (filled-put {n = length xs} nan
-    (step-at (n - 1) (step-at (n - 2) F (diff-right1 (a .h) n xs _ long is (omega arith) (rows .before .row53 .ensures)) (omega arith) refl (omega arith))
-    (diff-right0 (a .h) n xs _ long is (omega arith) (rows .row54 .ensures)) refl refl (omega arith)) (omega arith))
+    let h = start .args .h in
+    let n = start .args .n in
+    difference-pass n 8 (diffAt h) (start .args .w .now) (omega arith) (omega arith) (omega arith) (omega arith) (c .before .loop .inv .3) (λ xs long is. (
+      diff-left0 h n xs _ long is (rows .before .before .before .row5 .ensures),
+      diff-left1 h n xs _ long is (rows .before .before .row52 .ensures),
+      diff-right1 h n xs _ long is (omega arith) (rows .before .row53 .ensures),
+      diff-right0 h n xs _ long is (omega arith) (rows .row54 .ensures),
+    ))
 
 pub compute-radial-gradient-spec : {M : Type 1} → statement M
 compute-radial-gradient-spec =

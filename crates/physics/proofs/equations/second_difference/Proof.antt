@@ -1,14 +1,13 @@
 -- `second_difference` meets its contract.
-use mathlib.Core.Path.{_≡_, refl, sym, ap, _∙_}
+use mathlib.Core.Path.{_≡_, refl}
 use Prim.Native.Nat.{_≤_, _-_, _+_, _*_}
-use native.Mathlib.Nat.{add-zero}
 use native.Mathlib.Omega.{arith}
 use lib.ListN.{length, length-set}
-use lib.Ieee.{nan}
-use Rattle.vectors.specs.MemoryLaws.{Grown, grown-none, grown-step, filled-none, step, step-at, filled-put}
+use Rattle.vectors.specs.MemoryLaws.{Grown, grown-none}
 use Rattle.vectors.specs.Stencil.{diff2Of, diff2At, diff2Left0, diff2Left1, diff2Inner, diff2Right1, diff2Right0}
-use Rattle.vectors.specs.StencilLaws.{length-diff2Of, diff2-left0, diff2-left1, diff2-inner, diff2-right1, diff2-right0}
-use Rattle.physics.specs.Slots.{slots, lends, lent-slot, length-slot, wrote}
+use Rattle.vectors.specs.StencilLaws.{diff2-left0, diff2-left1, diff2-inner, diff2-right1, diff2-right0}
+use Rattle.physics.specs.Slots.{slots}
+use Rattle.physics.specs.DifferenceLaws.{difference-turn, difference-pass}
 use borrow.Author.Needs.{needs}
 use Rattle.physics.proofs.equations.second_difference.Statement.{statement}
 use Rattle.physics.proofs.equations.second_difference.Tie as tie
@@ -24,40 +23,28 @@ loop-again : tie.Need-loop-again Inv-loop μ-loop
 unfolding diff2Inner
 loop-again c =
     let turn = c .before .before .before .before in
-    let a = turn .before .before .before .before .before .before .before .before .args in
-    let n = a .n in
-    let i = turn .loop .i in
-    let e : 1 * n ≡ 0 * n + n = omega arith in (
+    let a = turn .before .before .before .before .before .before .before .before .args in (
       omega arith,
       omega arith,
       simp length-set (omega arith),
-      grown-step (turn .loop .inv .3) refl (λ E f.
-          let is = lends n 9 0 (1 * n) f (omega arith) refl e in
-          let long = ap length (sym is) ∙ ap length (lent-slot n 0 (1 * n) _ e) ∙ length-slot n 0 (turn .loop .w) (omega arith) in
-          diff2-inner (a .h) n _ _ long is i (omega arith) (omega arith) (c .row5 .ensures)),
+      difference-turn (a .n) 9 (diff2At (a .h)) (turn .loop .inv .3) (omega arith) (omega arith) refl (λ xs long is.
+          diff2-inner (a .h) _ xs _ long is _ (omega arith) (omega arith) (c .row5 .ensures)),
     )
 
 returns : tie.Need-returns Inv-loop μ-loop
 unfolding diff2Of diff2Left0 diff2Left1 diff2Right1 diff2Right0
 returns c =
-    let turn = c .before in
-    let rows = turn .before in
+    let rows = c .before .before in
     let start = rows .before .before .before .before .before .before .before in
     let pre = start .pre in
-    let a = start .args in
-    let n = a .n in
-    let w = a .w .now in
-    let xs = slots n w 0 in
-    let e : 1 * n ≡ 0 * n + n = omega arith in
-    let is = lent-slot n 0 (1 * n) w e in
-    let long = length-slot n 0 w (omega arith) in
-    let F = turn .loop .inv .3 .grow w
-    (step (step (filled-none _ (diff2At (a .h) xs) w) (sym (add-zero _)) (diff2-left0 (a .h) n xs _ long is (rows .before .before .before .row6 .ensures))) refl
-    (diff2-left1 (a .h) n xs _ long is (rows .before .before .row62 .ensures))) in
-    wrote n 9 (λ S. diff2Of (a .h) (S 0)) w _ (length-diff2Of (a .h) xs ∙ long) (omega arith)
-    (filled-put {n = length xs} nan
-    (step-at (n - 1) (step-at (n - 2) F (diff2-right1 (a .h) n xs _ long is (omega arith) (rows .before .row6-descending .ensures)) (omega arith) refl (omega arith))
-    (diff2-right0 (a .h) n xs _ long is (omega arith) (rows .row6-descending2 .ensures)) refl refl (omega arith)) (omega arith))
+    let h = start .args .h in
+    let n = start .args .n in
+    difference-pass n 9 (diff2At h) (start .args .w .now) (omega arith) (omega arith) (omega arith) (omega arith) (c .before .loop .inv .3) (λ xs long is. (
+      diff2-left0 h n xs _ long is (rows .before .before .before .row6 .ensures),
+      diff2-left1 h n xs _ long is (rows .before .before .row62 .ensures),
+      diff2-right1 h n xs _ long is (omega arith) (rows .before .row6-descending .ensures),
+      diff2-right0 h n xs _ long is (omega arith) (rows .row6-descending2 .ensures),
+    ))
 
 pub second-difference-spec : {M : Type 1} → statement M
 second-difference-spec =

@@ -1,0 +1,2 @@
+-- What the proofs of this module share.
+mod States

@@ -1,6 +1,5 @@
 // Carries out one order turn by turn and prints the lines of each turn.
 ghost use Prim.Native.Nat.{_≤_};
-use cases::print;
 use run::carry_out::Carried;
 use run::carry_out::Job;
 use run::carry_out::begin_order;
@@ -79,7 +78,9 @@ fn gone_on(
 
 fn send(c: Carried, out: &[u8]) {
     match c {
-        Carried::NoRoom => print::text(b"no room\n"),
+        Carried::NoRoom => {
+            io::write_all(1, b"no room\n");
+        }
         Carried::Last(n) => first_bytes(n, out),
         Carried::More(n, _) => first_bytes(n, out),
     }
@@ -87,14 +88,12 @@ fn send(c: Carried, out: &[u8]) {
 
 fn first_bytes(n: usize, out: &[u8]) {
     let end = least(n, out.len());
-    print::text(&out[0..end]);
+    io::write_all(1, &out[0..end]);
 }
 
 fn ended(c: Carried) {
-    match c {
-        Carried::More(_, _) => print::text(b"not ended\n"),
-        Carried::Last(_) => print::text(b""),
-        Carried::NoRoom => print::text(b""),
+    if let Carried::More(_, _) = c {
+        io::write_all(1, b"not ended\n");
     }
 }
 

@@ -8,7 +8,6 @@ mod runs;
 mod table;
 
 use cases::digest::mixed;
-use cases::print;
 
 fn main() {
     let mut input = [0u8; 4100];
@@ -54,16 +53,13 @@ fn answer(
 
 // The order's number, how many bytes it has and their digest.
 fn heading(k: u32, order: &[u8]) {
-    print::text(b"order");
-    print::decimal(k as u64);
-    print::text(b" bytes");
-    counted(order);
-    print::end();
-}
-
-fn counted(order: &[u8]) {
-    print::decimal(order.len() as u64);
-    print::decimal(digest(order));
+    io::write_all(1, b"order ");
+    io::print_decimal(1, k as u64);
+    io::write_all(1, b" bytes ");
+    io::print_decimal(1, order.len() as u64);
+    io::write_all(1, b" ");
+    io::print_decimal(1, digest(order));
+    io::write_all(1, b"\n");
 }
 
 fn digest(bytes: &[u8]) -> u64 {

@@ -5,6 +5,7 @@ pub mod Clock
 pub mod ClockLaws
 pub mod Demand
 pub mod DemandProof
+pub mod FlatSpace
 pub mod FrameLaws
 pub mod FrameWriting
 pub mod Frames
@@ -13,6 +14,7 @@ pub mod Inputs
 pub mod InputsLaws
 pub mod Model
 pub mod ModelLaws
+pub mod NotEmpty
 pub mod OneCall
 pub mod Outcome
 pub mod PlainRun

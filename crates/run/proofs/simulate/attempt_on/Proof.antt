@@ -1,7 +1,7 @@
 -- `run::simulate::attempt_on` meets its contract.
 use mathlib.Core.Bool.{not}
 use mathlib.Core.Path.{_≡_, refl, sym, ap, _∙_}
-use Prim.Native.Nat.{ℕ, _+_, _*_, _≤_}
+use Prim.Native.Nat.{ℕ, _+_, _*_, _^_, _≤_, _<_}
 use native.Mathlib.Nat.{le-trans, le-of-eq}
 use native.Mathlib.Omega.{arith}
 use borrow.Author.Needs.{needs}
@@ -59,6 +59,14 @@ room-of c =
     let start = start-of (c .before) in
     start .pre .room (frame-due (start .args .clock .framed) (not (tested-of (c .before) .has-nan .result)) (sym (c .before .and-also .ensures) ∙ c .if1 .taken))
 
+-- and its count fits a usize
+count-of : (c : tie.Then1) → start-of (c .before) .args .live .count + 1 < 2 ^ 64
+count-of c =
+    let start = start-of (c .before) in
+    let s = start .args .live .run .settings in
+    count-fits (start .args .live .count) (frameCount s) (length (start .args .frames .now)) (frame-some s (start .pre .lent .sound)) (room-of c)
+    (start .good .1 .1 .1 .1 .0 .0)
+
 write-frame-requires : tie.Need-write-frame-requires
 write-frame-requires c κs =
     let due = c .before .before .before .before .before in
@@ -74,17 +82,6 @@ write-frame-requires c κs =
       at-room (a .live .count) (frameCount (a .live .run .settings)) (c .before .frame-size .result) (length (a .frames .now)) (c .before .frame-size .ensures)
           (room-of due),
     )
-
-add-t31 : tie.Need-add-t31
-add-t31 c =
-    let due = c .before .before .before .before .before .before .before .before .before .before .before in
-    let start = start-of (due .before) in
-    let a = start .args in
-    record {
-      fits =
-          count-fits (a .live .count) (frameCount (a .live .run .settings)) (length (a .frames .now))
-          (frame-some (a .live .run .settings) (start .pre .lent .sound)) (room-of due) (start .good .1 .1 .1 .1 .0 .0);
-    }
 
 returns : tie.Need-returns
 returns c =
@@ -123,7 +120,7 @@ attempt-on-spec =
     (λ c κs. start-of (c .before .before .before .before) .pre .lent .sound)
     mul-write-frame
     write-frame-requires
-    add-t31
+    (λ c. record { fits = count-of (c .before .before .before .before .before .before .before .before .before .before .before) })
     (λ c. search needs)
     (λ c. c .before .before .before .before .before .write-frame .kept .1 .1 .1 .0 ∙ made-of (c .before .before .before .before .before .before .before .before .before .before .before .before) .step .kept .1 .1 .1 .1 .0)
     (λ c. search needs)

@@ -1,5 +1,5 @@
 -- `run::model::store_next` meets its contract.
-use mathlib.Core.Path.{_≡_, refl, sym, ap, _∙_}
+use mathlib.Core.Path.{_∙_}
 use borrow.Author.Needs.{needs}
 use Rattle.run.proofs.Leaves.{stored, next-length, stored-next}
 use Rattle.run.proofs.model.store_next.Statement.{statement}

@@ -1,14 +1,12 @@
 -- `run::simulate::attempt_on` meets its contract.
 use mathlib.Core.Bool.{not}
-use mathlib.Core.Path.{_≡_, refl, sym, ap, _∙_}
+use mathlib.Core.Path.{sym, ap, _∙_}
 use Prim.Native.Nat.{ℕ, _+_, _*_, _^_, _≤_, _<_}
 use native.Mathlib.Nat.{le-trans, le-of-eq}
-use native.Mathlib.Omega.{arith}
 use borrow.Author.Needs.{needs}
 use lib.ListN.{length}
 use Rattle.run.specs.Model.{frameCount}
 use Rattle.run.specs.ModelLaws.{frame-some}
-use Rattle.run.specs.Answers.{CanAttempt}
 use Rattle.run.proofs.OneAttempt.{frame-due, at-fits, count-fits, at-room, attempted-plain, attempted-framed}
 use Rattle.run.proofs.simulate.attempt_on.Statement.{statement}
 use Rattle.run.proofs.simulate.attempt_on.Tie as tie

@@ -1,11 +1,9 @@
 -- `run::simulate::start_run` meets its contract.
-use mathlib.Core.Path.{_≡_, refl, sym, ap, _∙_}
-use Prim.Native.Nat.{_≤_}
+use mathlib.Core.Path.{sym, _∙_}
 use native.Mathlib.Nat.{le-trans, le-of-eq, zero-add}
 use lib.ListN.{length}
 use borrow.Author.Needs.{needs}
 use Rattle.run.specs.Model.{frameCount}
-use Rattle.run.specs.Answers.{Lent}
 use Rattle.run.proofs.Refusals.{LentAll, lent-all}
 use Rattle.run.proofs.Beginning.{begin-nan, begin-skipped, begin-framed}
 use Rattle.run.proofs.simulate.start_run.Statement.{statement}

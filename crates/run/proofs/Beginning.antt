@@ -53,68 +53,76 @@ module _ (s : Settings) (memory work frames : List Float) where
         ap (λ (o : Option ℕ). option o some (cond (holdsNan (firstState s)) (some 13) none)) given
         ∙ ap (λ (x : Bool). cond x (some 13) none) (ap holdsNan (sym made) ∙ sym h)
 
-    pub begin-nan :
-        true ≡ holdsNan (nextIn s t w) →
-        _≡_ {A = AfterBegin} (record { answer = refusedBegin 13; memory = memory; frames = frames }) (beginOf s memory work frames)
-    begin-nan h = sym (begin-some s memory work frames 13 (refusal-is true h))
+    -- and stored in state memory, unless it holds a NaN
+    module _ (refused : Bool) (told : refused ≡ holdsNan (nextIn s t w)) (memory′ : List Float)
+        (stored : memory′ ≡ cond refused memory (put 0 (part (cellCount s) (cellCount s) w) memory)) where
+      left-as : (b : Bool) → refused ≡ b → memory′ ≡ cond b memory (put 0 (part (cellCount s) (cellCount s) w) memory)
+      left-as b e = stored ∙ ap (λ (x : Bool). cond x memory (put 0 (part (cellCount s) (cellCount s) w) memory)) e
 
-    module _ (memory′ : List Float) (stored : memory′ ≡ put 0 (part (cellCount s) (cellCount s) w) memory) (fine : false ≡ holdsNan (nextIn s t w)) where
-      memory-is : memory′ ≡ withState (firstState s) memory
-      memory-is = stored ∙ stored-is s t w memory wide ∙ ap (λ (a : State). withState a memory) made
+      pub begin-nan :
+          refused ≡ true →
+          _≡_ {A = AfterBegin} (record { answer = refusedBegin 13; memory = memory′; frames = frames }) (beginOf s memory work frames)
+      begin-nan e =
+          ap (λ (m : List Float). record { answer = refusedBegin 13; memory = m; frames = frames }) (left-as true e)
+          ∙ sym (begin-some s memory work frames 13 (refusal-is true (sym e ∙ told)))
 
-      time-is : t ≡ firstState s .time
-      time-is = sym (time-in s t (part (cellCount s) (cellCount s) w)) ∙ ap (λ (a : State). a .time) made
+      module _ (fine : refused ≡ false) where
+        memory-is : memory′ ≡ withState (firstState s) memory
+        memory-is = left-as false fine ∙ stored-is s t w memory wide ∙ ap (λ (a : State). withState a memory) made
 
-      -- the machine at the start, by whether frames are skipped
-      abbrev started : Bool → Machine
-      started skip = record { state = firstState s; steps = 0; broken = false; frames = cond skip [] (frameOf s (firstState s) ∷ []) }
+        time-is : t ≡ firstState s .time
+        time-is = sym (time-in s t (part (cellCount s) (cellCount s) w)) ∙ ap (λ (a : State). a .time) made
 
-      start-is : started (s .skip) ≡ start s
-      unfolding start
-      start-is = refl
+        -- the machine at the start, by whether frames are skipped
+        abbrev started : Bool → Machine
+        started skip = record { state = firstState s; steps = 0; broken = false; frames = cond skip [] (frameOf s (firstState s) ∷ []) }
 
-      begins :
-          (skip : Bool) → s .skip ≡ skip → (frames′ : List Float) → frames′ ≡ withFrames (started skip .frames) frames →
-          _≡_ {A = AfterBegin}
-          (record {
-            answer = accepted (record { settings = s; time = t; steps = 0; broken = false }) (length (started skip .frames));
-            memory = memory′;
-            frames = frames′;
-          })
-          (beginOf s memory work frames)
-      begins skip k frames′ hf =
-          (λ i.
-          record {
-            answer = accepted (record { settings = s; time = time-is i; steps = 0; broken = false }) (length (started skip .frames));
-            memory = memory-is i;
-            frames = hf i;
-          })
-          ∙ ap
-          (λ (m : Machine).
-          record {
-            answer = accepted (recordOf s m) (length (m .frames));
-            memory = withState (m .state) memory;
-            frames = withFrames (m .frames) frames;
-          })
-          (ap started (sym k) ∙ start-is)
-          ∙ sym (begin-none s memory work frames (refusal-is false fine))
+        start-is : started (s .skip) ≡ start s
+        unfolding start
+        start-is = refl
 
-      pub begin-skipped :
-          s .skip ≡ true →
-          _≡_ {A = AfterBegin}
-          (record { answer = accepted (record { settings = s; time = t; steps = 0; broken = false }) 0; memory = memory′; frames = frames })
-          (beginOf s memory work frames)
-      unfolding flatten
-      begin-skipped k = begins true k frames (sym (put-nothing 0 frames))
+        begins :
+            (skip : Bool) → s .skip ≡ skip → (frames′ : List Float) → frames′ ≡ withFrames (started skip .frames) frames →
+            _≡_ {A = AfterBegin}
+            (record {
+              answer = accepted (record { settings = s; time = t; steps = 0; broken = false }) (length (started skip .frames));
+              memory = memory′;
+              frames = frames′;
+            })
+            (beginOf s memory work frames)
+        begins skip k frames′ hf =
+            (λ i.
+            record {
+              answer = accepted (record { settings = s; time = time-is i; steps = 0; broken = false }) (length (started skip .frames));
+              memory = memory-is i;
+              frames = hf i;
+            })
+            ∙ ap
+            (λ (m : Machine).
+            record {
+              answer = accepted (recordOf s m) (length (m .frames));
+              memory = withState (m .state) memory;
+              frames = withFrames (m .frames) frames;
+            })
+            (ap started (sym k) ∙ start-is)
+            ∙ sym (begin-none s memory work frames (refusal-is false (sym fine ∙ told)))
 
-      pub begin-framed :
-          s .skip ≡ false → (frames′ : List Float) → frames′ ≡ put 0 (frameOf s (stateIn s t memory′)) frames →
-          _≡_ {A = AfterBegin}
-          (record { answer = accepted (record { settings = s; time = t; steps = 0; broken = false }) 1; memory = memory′; frames = frames′ })
-          (beginOf s memory work frames)
-      unfolding flatten
-      begin-framed k frames′ hf =
-          begins false k frames′
-          (hf
-          ∙ ap (λ (a : State). put 0 (frameOf s a) frames) (ap (stateIn s t) stored ∙ stored-state s t w memory wide ∙ made)
-          ∙ ap (λ (f : List Float). put 0 f frames) (sym (append-nil (frameOf s (firstState s)))))
+        pub begin-skipped :
+            s .skip ≡ true →
+            _≡_ {A = AfterBegin}
+            (record { answer = accepted (record { settings = s; time = t; steps = 0; broken = false }) 0; memory = memory′; frames = frames })
+            (beginOf s memory work frames)
+        unfolding flatten
+        begin-skipped k = begins true k frames (sym (put-nothing 0 frames))
+
+        pub begin-framed :
+            s .skip ≡ false → (frames′ : List Float) → frames′ ≡ put 0 (frameOf s (stateIn s t memory′)) frames →
+            _≡_ {A = AfterBegin}
+            (record { answer = accepted (record { settings = s; time = t; steps = 0; broken = false }) 1; memory = memory′; frames = frames′ })
+            (beginOf s memory work frames)
+        unfolding flatten
+        begin-framed k frames′ hf =
+            begins false k frames′
+            (hf
+            ∙ ap (λ (a : State). put 0 (frameOf s a) frames) (ap (stateIn s t) (left-as false fine) ∙ stored-state s t w memory wide ∙ made)
+            ∙ ap (λ (f : List Float). put 0 f frames) (sym (append-nil (frameOf s (firstState s)))))

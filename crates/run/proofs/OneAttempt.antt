@@ -1,6 +1,6 @@
 -- One attempt, from what the functions ensure that it calls.
 use Prim.Native.Nat.{ℕ, _+_, _-_, _*_, _^_, _≤_, _<_}
-use mathlib.Core.Bool.{Bool, true, false, cond}
+use mathlib.Core.Bool.{Bool, true, false, cond, not, _&&_, and-true, and-false, false≢true}
 use mathlib.Core.List.{List, [], _∷_, _++_, flatten, append-nil}
 use mathlib.Core.Path.{_≡_, refl, sym, _∙_, ap, ap₂}
 use native.Mathlib.Nat.{add-zero, le-mul-of-pos-right}
@@ -21,7 +21,7 @@ use Rattle.run.specs.PlainRun.{Machine, attempt}
 use Rattle.run.specs.PlainRunLaws.{broken-machine, stepped-machine, attempt-breaks, attempt-steps}
 use Rattle.run.specs.Calls.{recordOf, machineOf, withState}
 use Rattle.run.specs.FrameLaws.{put-nothing, put-self}
-use Rattle.run.specs.Answers.{nextIn, CanAttempt, attempted, Attempted}
+use Rattle.run.specs.Answers.{nextIn, recordAfter, CanAttempt, attempted, Attempted}
 use Rattle.run.proofs.Leaves.{time-in, layOut-next}
 
 -- a state memory keeps its numbers where its own state is put
@@ -45,6 +45,11 @@ module _ (s : Settings) (time : Float) (work memory : List Float) (wide : workCo
       ap (stateIn s time) stored-is
       ∙ ap (λ (t : Float). stateIn s t (withState (nextIn s time work) memory)) (sym (time-in s time (part (cellCount s) (cellCount s) work)))
       ∙ stateIn-put next-sized memory
+
+-- a frame that is written was due
+pub frame-due : (framed fine : Bool) → (framed && fine) ≡ true → framed ≡ true
+frame-due true fine e = refl
+frame-due false fine e = absurd (false≢true e)
 
 -- the places of frames fit a usize
 pub at-fits : (count F f l : ℕ) → f ≡ F → count * F ≤ l → l < 2 ^ 64 → count * f < 2 ^ 64
@@ -100,63 +105,82 @@ module _ (live : Live) (clock : TimeStep) (memory work frames : List Float) (can
     wide : workCount s ≤ length w
     wide = omega (arith, can .lent .work-fits)
 
-    pub attempted-nan :
-        true ≡ holdsNan (nextIn s t w) →
-        Attempted live memory work frames
-        (record { run = record { settings = s; time = run .time; steps = run .steps; broken = true }; count = live .count }) memory w frames
-    attempted-nan h =
-        left-by (attempt-breaks s before (can .going) (ap holdsNan (sym next-is) ∙ sym h)) _ memory w frames
-        (ap (λ (x : Float). record { settings = s; time = x; steps = run .steps; broken = true }) (sym (time-in s (run .time) memory)))
-        (sym (add-zero (live .count)))
-        (keeps-state s (run .time) memory)
-        (no-frame (live .count * frameCount s))
-        kept
+    -- and stored in state memory, and its record made, unless it is broken
+    module _ (r : Record) (memory′ : List Float) where
+      -- what is known of them, by whether it is
+      record Kept (broken : Bool) : Type 0 where
+        told : broken ≡ holdsNan (nextIn s t w)
+        record-is : r ≡ recordAfter run t broken
+        stored : memory′ ≡ cond broken memory (put 0 (part (cellCount s) (cellCount s) w) memory)
 
-    module _ (memory′ : List Float) (stored : memory′ ≡ put 0 (part (cellCount s) (cellCount s) w) memory) (fine : false ≡ holdsNan (nextIn s t w)) where
-      abbrev next-record : Record
-      next-record = record { settings = s; time = t; steps = run .steps + 1; broken = run .broken }
+      broken-left : Kept true → Attempted live memory work frames (record { run = r; count = live .count }) memory′ w frames
+      broken-left k =
+          left-by (attempt-breaks s before (can .going) (ap holdsNan (sym next-is) ∙ sym (k .told))) _ memory′ w frames
+          (k .record-is ∙ ap (λ (x : Float). record { settings = s; time = x; steps = run .steps; broken = true }) (sym (time-in s (run .time) memory)))
+          (sym (add-zero (live .count)))
+          (k .stored ∙ keeps-state s (run .time) memory)
+          (no-frame (live .count * frameCount s))
+          kept
 
-      steps-to : (b : Bool) → b ≡ framesNext s (before .state) →
-          attempted live memory
-          ≡ record {
-            state = nextState s (before .state);
-            steps = run .steps + 1;
-            broken = run .broken;
-            frames = cond b ([] ++ frameOf s (nextState s (before .state)) ∷ []) [];
-          }
-      steps-to b f =
-          attempt-steps s before (can .going) (ap holdsNan (sym next-is) ∙ sym fine)
-          ∙ ap
-          (λ (x : Bool).
-          record {
-            state = nextState s (before .state);
-            steps = run .steps + 1;
-            broken = run .broken;
-            frames = cond x ([] ++ frameOf s (nextState s (before .state)) ∷ []) [];
-          })
-          (sym f)
+      module _ (k : Kept false) where
+        steps-to : (b : Bool) → b ≡ framesNext s (before .state) →
+            attempted live memory
+            ≡ record {
+              state = nextState s (before .state);
+              steps = run .steps + 1;
+              broken = run .broken;
+              frames = cond b ([] ++ frameOf s (nextState s (before .state)) ∷ []) [];
+            }
+        steps-to b f =
+            attempt-steps s before (can .going) (ap holdsNan (sym next-is) ∙ sym (k .told))
+            ∙ ap
+            (λ (x : Bool).
+            record {
+              state = nextState s (before .state);
+              steps = run .steps + 1;
+              broken = run .broken;
+              frames = cond x ([] ++ frameOf s (nextState s (before .state)) ∷ []) [];
+            })
+            (sym f)
 
-      record-to : next-record ≡ recordOf s (record { state = nextState s (before .state); steps = run .steps + 1; broken = run .broken; frames = [] })
-      record-to =
-          ap (λ (x : Float). record { settings = s; time = x; steps = run .steps + 1; broken = run .broken })
-          (sym (time-in s t (part (cellCount s) (cellCount s) w)) ∙ ap (λ (a : State). a .time) next-is)
+        record-to : r ≡ recordOf s (record { state = nextState s (before .state); steps = run .steps + 1; broken = run .broken; frames = [] })
+        record-to =
+            k .record-is
+            ∙ ap (λ (x : Float). record { settings = s; time = x; steps = run .steps + 1; broken = run .broken })
+            (sym (time-in s t (part (cellCount s) (cellCount s) w)) ∙ ap (λ (a : State). a .time) next-is)
 
-      memory-to : memory′ ≡ withState (nextState s (before .state)) memory
-      memory-to = stored ∙ stored-is s t w memory wide ∙ ap (λ (a : State). withState a memory) next-is
+        memory-to : memory′ ≡ withState (nextState s (before .state)) memory
+        memory-to = k .stored ∙ stored-is s t w memory wide ∙ ap (λ (a : State). withState a memory) next-is
 
+        plain-left : clock .framed ≡ false → Attempted live memory work frames (record { run = r; count = live .count }) memory′ w frames
+        plain-left f =
+            left-by (steps-to false (sym f ∙ can .timed .framed)) _ memory′ w frames record-to (sym (add-zero (live .count))) memory-to
+            (no-frame (live .count * frameCount s)) kept
+
+        framed-left :
+            clock .framed ≡ true → (w′ : List Float) → drop (workCount s) w′ ≡ drop (workCount s) w → (at : ℕ) → at ≡ live .count * frameCount s →
+            (frames′ : List Float) → frames′ ≡ put at (frameOf s (stateIn s t memory′)) frames →
+            Attempted live memory work frames (record { run = r; count = live .count + 1 }) memory′ w′ frames′
+        framed-left f w′ kept′ at ha frames′ hf =
+            left-by (steps-to true (sym f ∙ can .timed .framed)) _ memory′ w′ frames′ record-to refl memory-to
+            (hf
+            ∙ ap₂ (λ (k : ℕ) (a : State). put k (frameOf s a) frames) ha (ap (stateIn s t) (k .stored) ∙ stored-state s t w memory wide ∙ next-is)
+            ∙ one-frame (live .count * frameCount s) (frameOf s (nextState s (before .state))))
+            (kept′ ∙ kept)
+
+      -- what an attempt leaves that writes no frame, and one that writes a frame
       pub attempted-plain :
-          clock .framed ≡ false → Attempted live memory work frames (record { run = next-record; count = live .count }) memory′ w frames
-      attempted-plain f =
-          left-by (steps-to false (sym f ∙ can .timed .framed)) _ memory′ w frames record-to (sym (add-zero (live .count))) memory-to
-          (no-frame (live .count * frameCount s)) kept
+          (broken : Bool) → broken ≡ holdsNan (nextIn s t w) → r ≡ recordAfter run t broken →
+          memory′ ≡ cond broken memory (put 0 (part (cellCount s) (cellCount s) w) memory) → (clock .framed && not broken) ≡ false →
+          Attempted live memory work frames (record { run = r; count = live .count }) memory′ w frames
+      attempted-plain true h hr hm f = broken-left (record { told = h; record-is = hr; stored = hm })
+      attempted-plain false h hr hm f = plain-left (record { told = h; record-is = hr; stored = hm }) (sym (and-true (clock .framed)) ∙ f)
 
       pub attempted-framed :
-          clock .framed ≡ true → (w′ : List Float) → drop (workCount s) w′ ≡ drop (workCount s) w → (at : ℕ) → at ≡ live .count * frameCount s →
+          (broken : Bool) → broken ≡ holdsNan (nextIn s t w) → r ≡ recordAfter run t broken →
+          memory′ ≡ cond broken memory (put 0 (part (cellCount s) (cellCount s) w) memory) → (clock .framed && not broken) ≡ true →
+          (w′ : List Float) → drop (workCount s) w′ ≡ drop (workCount s) w → (at : ℕ) → at ≡ live .count * frameCount s →
           (frames′ : List Float) → frames′ ≡ put at (frameOf s (stateIn s t memory′)) frames →
-          Attempted live memory work frames (record { run = next-record; count = live .count + 1 }) memory′ w′ frames′
-      attempted-framed f w′ kept′ at ha frames′ hf =
-          left-by (steps-to true (sym f ∙ can .timed .framed)) _ memory′ w′ frames′ record-to refl memory-to
-          (hf
-          ∙ ap₂ (λ (k : ℕ) (a : State). put k (frameOf s a) frames) ha (ap (stateIn s t) stored ∙ stored-state s t w memory wide ∙ next-is)
-          ∙ one-frame (live .count * frameCount s) (frameOf s (nextState s (before .state))))
-          (kept′ ∙ kept)
+          Attempted live memory work frames (record { run = r; count = live .count + 1 }) memory′ w′ frames′
+      attempted-framed true h hr hm f = absurd (false≢true (sym (and-false (clock .framed)) ∙ f))
+      attempted-framed false h hr hm f = framed-left (record { told = h; record-is = hr; stored = hm }) (sym (and-true (clock .framed)) ∙ f)

@@ -1,7 +1,7 @@
 -- What the contracts of src/ cite beside the definitions of 01: its numbers and values for each case of an answer, and where the code keeps
 -- what the definitions speak of. Definitions only.
 use Prim.Native.Nat.{ℕ, _+_, _*_, _^_, _≤_, _<_}
-use mathlib.Core.Bool.{true, false}
+use mathlib.Core.Bool.{Bool, true, false, cond}
 use mathlib.Core.List.{List, flatten}
 use mathlib.Core.Option.{Option, none, some}
 use mathlib.Core.Path.{_≡_}
@@ -55,6 +55,13 @@ afterAdvance a memory frames = record { reply = replyOf (a .answer); record′ =
 -- the next state stands in work memory behind its first 8n numbers
 abbrev pub nextIn : Settings → Float → List Float → State
 nextIn s time work = stateIn s time (part (cellCount s) (cellCount s) work)
+
+-- the record after an attempt whose next state has this time: "only the broken mark is set", or "it replaces the state, steps rises by 1"
+abbrev pub recordAfter : Record → Float → Bool → Record
+recordAfter r time broken =
+    cond broken
+    (record { settings = r .settings; time = r .time; steps = r .steps; broken = true })
+    (record { settings = r .settings; time = time; steps = r .steps + 1; broken = r .broken })
 
 -- the clock is the one of this state
 pub record ClockOf (s : Settings) (a : State) (c : TimeStep) : Type 0 where

@@ -12,6 +12,7 @@ pub mod Clock
 pub mod ClockLaws
 pub mod Demand
 pub mod DemandProof
+pub mod FlatSpace
 pub mod FrameLaws
 pub mod FrameWriting
 pub mod Frames
@@ -22,6 +23,7 @@ pub mod Lines
 pub mod LinesLaws
 pub mod Model
 pub mod ModelLaws
+pub mod NotEmpty
 pub mod OneCall
 pub mod Order
 pub mod OrderExamples

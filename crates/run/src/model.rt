@@ -1,5 +1,6 @@
 // What a run asks of the physics, of the clock and of the frames, by the names of specs/Model.antt.
 ghost use Prim.Native.Nat.{_≤_, _+_, _*_};
+ghost use mathlib.Core.Bool.{cond};
 ghost use mathlib.Core.Option.{none};
 ghost use mathlib.Core.Path.{_≡_};
 ghost use lib.Ieee.{lt};
@@ -123,11 +124,14 @@ pub(crate) fn has_nan(s: Settings, time: f64, work: &[f64]) -> bool
     physics::state::has_nan(time, &work[at..end])
 }
 
-// Stores the state that was made in work memory.
-pub(crate) fn store_next(s: Settings, work: &[f64], state: &mut [f64])
+// Stores the state that was made in work memory, unless it is broken.
+pub(crate) fn store_next(s: Settings, broken: bool, work: &[f64], state: &mut [f64])
     requires { ⌜ Lent s (length (now state)) (length (now work)) ⌝ }
-    ensures { λ _. ⌜ now (state .exit) ≡ put 0 (part (cellCount s) (cellCount s) (now (work .entry))) (now (state .entry)) ⌝ }
+    ensures { λ _. ⌜ now (state .exit) ≡ cond broken (now (state .entry)) (put 0 (part (cellCount s) (cellCount s) (now (work .entry))) (now (state .entry))) ⌝ }
 {
+    if broken {
+        return;
+    }
     let n = length_at_discretization(s.level);
     let at = 8 * n;
     let end = 16 * n;

@@ -10,7 +10,7 @@ ghost use Rattle.run.specs.Model.{faultAt, cellCount, workCount, frameCo
 ghost use Rattle.run.specs.PlainRun.{hasEnded, outcomeOf};
 ghost use Rattle.run.specs.Tally.{ran, tooShort};
 ghost use Rattle.run.specs.Calls.{machineOf, lentRefusal, beginOf, beginUses, advanceRefusal, attemptsFrom, leftBy, advanceOf, advanceUses, isIdle};
-ghost use Rattle.run.specs.Answers.{refusalOf, replyOf, afterBegin, afterAdvance, CanAttempt, Attempted};
+ghost use Rattle.run.specs.Answers.{refusalOf, replyOf, afterBegin, afterAdvance, recordAfter, CanAttempt, Attempted};
 use crate::adaptive_time_step::TimeStep;
 use crate::model::Verdict;
 use crate::model::clock_at;
@@ -120,6 +120,28 @@ fn is_full(s: Settings, framed: bool, count: usize, room: usize) -> bool
     and_also(framed, room - count * f < f)
 }
 
+// The record after an attempt whose next state has this time: the broken mark alone, or that time and one step more.
+fn record_after(run: Record, time: f64, broken: bool) -> Record
+    requires { ⌜ run .steps + 1 < 2 ^ 32 ⌝ }
+    ensures { λ r. ⌜ r ≡ recordAfter run time broken ⌝ }
+{
+    let s = run.settings;
+    if broken {
+        return Record {
+            settings: s,
+            time: run.time,
+            steps: run.steps,
+            broken: true,
+        };
+    }
+    Record {
+        settings: s,
+        time: time,
+        steps: run.steps + 1,
+        broken: run.broken,
+    }
+}
+
 // One attempt of a run that has not ended and has room.
 fn attempt_on(
     live: Live,
@@ -134,25 +156,10 @@ fn attempt_on(
     let run = live.run;
     let s = run.settings;
     let time = step(s, run.time, clock.delta, state, work);
-    if has_nan(s, time, work) {
-        return Live {
-            run: Record {
-                settings: s,
-                time: run.time,
-                steps: run.steps,
-                broken: true,
-            },
-            count: live.count,
-        };
-    }
-    store_next(s, work, state);
-    let next = Record {
-        settings: s,
-        time: time,
-        steps: run.steps + 1,
-        broken: run.broken,
-    };
-    if clock.framed {
+    let broken = has_nan(s, time, work);
+    store_next(s, broken, work, state);
+    let next = record_after(run, time, broken);
+    if and_also(clock.framed, !broken) {
         write_frame(s, time, state, work, frames, live.count * frame_size(s));
         return Live {
             run: next,
@@ -273,10 +280,11 @@ fn start_run(s: Settings, state: &mut [f64], work: &mut [f64], frames: &mut [f64
     ensures { λ b. ⌜ drop (workCount s) (now (work .exit)) ≡ drop (workCount s) (now (work .entry)) ⌝ }
 {
     let time = start_state(s, work);
-    if has_nan(s, time, work) {
+    let refused = has_nan(s, time, work);
+    store_next(s, refused, work, state);
+    if refused {
         return Begun::Refused(13);
     }
-    store_next(s, work, state);
     let run = Record {
         settings: s,
         time: time,

@@ -7,6 +7,7 @@ pub mod Clock
 pub mod ClockLaws
 pub mod Demand
 pub mod DemandProof
+pub mod Examples
 pub mod FrameLaws
 pub mod FrameWriting
 pub mod Frames

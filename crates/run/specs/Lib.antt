@@ -12,6 +12,7 @@ pub mod Clock
 pub mod ClockLaws
 pub mod Demand
 pub mod DemandProof
+pub mod Examples
 pub mod FlatSpace
 pub mod FrameLaws
 pub mod FrameWriting

@@ -32,10 +32,11 @@ fn read_input(buffer: &mut [u8]) -> Input {
         if got < 0 {
             return Input::Failed;
         }
-        if got == 0 {
+        let more = io::count(got, &buffer[count..most]);
+        if more == 0 {
             return Input::Bytes(count);
         }
-        count += got as usize;
+        count += more;
     }
     Input::Bytes(count)
 }
@@ -93,7 +94,7 @@ fn next_call(
 
 // Writes a call's lines; whether they were written and a job is left.
 fn send(call: Carried, out: &[u8]) -> bool
-    ensures { λ r. ⌜ r ≡ true → isMore call ≡ true ⌝ }
+    ensures { λ r. ⌜ (r ≡ true → isMore call ≡ true) ⌝ }
 {
     match call {
         Carried::NoRoom => false,

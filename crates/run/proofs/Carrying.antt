@@ -114,10 +114,13 @@ module _ (j : Job) (order : List ℕ) (memory work frames : List Float) (out : L
         × ((framesTold (replyOf (a .answer)) * frameCount (a .record .settings) ≤ length frames′)
         × Long (frameCount (a .record .settings)) (replyOf (a .answer)))
     lines-fit h =
-        let l = leaves in
-        (omega (arith, l .long, leb-true (roomFor (length frames)) (length out) h),
-        (subst (λ (n : ℕ). framesTold (replyOf (a .answer)) * n ≤ length frames′) size (omega (arith, l .long, l .fits)),
-        subst (λ (n : ℕ). Long n (replyOf (a .answer))) size (l .large)))
+        let l = leaves in (
+          omega (arith, l .long, leb-true (roomFor (length frames)) (length out) h),
+          (
+            subst (λ (n : ℕ). framesTold (replyOf (a .answer)) * n ≤ length frames′) size (omega (arith, l .long, l .fits)),
+            subst (λ (n : ℕ). Long n (replyOf (a .answer))) size (l .large),
+          ),
+        )
 
     pub rest-fits : Fits j (replyOf (a .answer))
     rest-fits = go (replyOf (a .answer)) (leaves .few)
@@ -175,10 +178,13 @@ module _ (s : Settings) (p : Places) (order : List ℕ) (memory work frames : Li
           roomFor (length frames) ≤ length out →
           (roomFor (length frames′) ≤ length out) × ((count * frameCount (run .settings) ≤ length frames′) × (6 ≤ frameCount (run .settings)))
       begun-fits h =
-          let l = begins .long in
-          (omega arith,
-          (subst (λ (n : ℕ). count * n ≤ length frames′) size′ (omega (arith, begins .fits run count told)),
-          subst (λ (n : ℕ). 6 ≤ n) size′ (begins .large run count told)))
+          let l = begins .long in (
+            omega arith,
+            (
+              subst (λ (n : ℕ). count * n ≤ length frames′) size′ (omega (arith, begins .fits run count told)),
+              subst (λ (n : ℕ). 6 ≤ n) size′ (begins .large run count told),
+            ),
+          )
 
       pub begun-accepted :
           {end : ℕ} {out′ : List ℕ} {next : Option Job} (r : Carried) →

@@ -293,7 +293,6 @@ last-prints (suc n) order work lines memory frames out = take-front (textsOf lin
 module _ (order : List ℕ) (memory work frames : List Float) (out : List ℕ)
     (state-lent : length memory ≡ lentState) (work-lent : length work ≡ lentWork) (frames-lent : length frames ≡ lentFrames)
     (room : roomFor lentFrames ≤ length out) where
-
   same-refusal : (s : Settings) → beginRefusal s (length memory) (length work) (length frames) ≡ beginRefusal s lentState lentWork lentFrames
   same-refusal s = rw (state-lent, work-lent, frames-lent)
 

@@ -121,7 +121,10 @@ fn begin_run(
         Begun::Refused(number) => Carried::Last(refusal_in(out, 0, number)),
         Begun::Accepted(run, count) => {
             let end = frames_in(out, frames, count, frame_size(run.settings));
-            answered(end, advance_at(input, run, places.advances, 0, places.count))
+            answered(
+                end,
+                advance_at(input, run, places.advances, 0, places.count),
+            )
         }
     }
 }

@@ -1,15 +1,17 @@
+-- `collapse::read_input` meets its contract.
+use native.Mathlib.Omega.{arith}
+use mathlib.Core.Path.{_≡_, refl}
+use Prim.Native.Nat.{_-_, _≤_}
+use lib.ListN.{length}
 use borrow.Author.Needs.{needs}
 use Rattle.collapse.proofs.read_input.Statement.{statement}
 use Rattle.collapse.proofs.read_input.Tie as tie
-use Rattle.collapse.proofs.read_input.Reads as reads
-use Rattle.collapse.proofs.read_input.Lts as lts
-use Rattle.libc.proofs.read.Reads as read-reads
 
 abbrev Inv-loop : tie.InvT-loop
-Inv-loop buffer₀ most count₀ buffer count = ?
+Inv-loop buffer₀ most count₀ buffer count = (most ≡ length buffer) × (length buffer ≡ length buffer₀) × (count ≤ most)
 
 abbrev μ-loop : tie.MeasureT-loop
-μ-loop buffer₀ most count₀ buffer count = ?
+μ-loop buffer₀ most count₀ buffer count = most - count
 
 loop-holds : tie.Need-loop-holds Inv-loop μ-loop
 loop-holds c = search needs
@@ -32,14 +34,23 @@ same-length c = search needs
 returns : tie.Need-returns Inv-loop μ-loop
 returns c = search needs
 
+sub-count : tie.Need-sub-count Inv-loop μ-loop
+sub-count c = search needs
+
+part-count-start : tie.Need-part-count-start Inv-loop μ-loop
+part-count-start c = search needs
+
+part-count-end : tie.Need-part-count-end Inv-loop μ-loop
+part-count-end c = search needs
+
+count-requires : tie.Need-count-requires Inv-loop μ-loop
+count-requires c κs = search needs
+
 same-length-2 : tie.Need-same-length-2 Inv-loop μ-loop
 same-length-2 c = search needs
 
 returns-2 : tie.Need-returns-2 Inv-loop μ-loop
 returns-2 c = search needs
-
-cast-count : tie.Need-cast-count Inv-loop μ-loop
-cast-count c = search needs
 
 add-count : tie.Need-add-count Inv-loop μ-loop
 add-count c = search needs
@@ -69,9 +80,12 @@ read-input-spec =
     read-requires
     same-length
     returns
+    sub-count
+    part-count-start
+    part-count-end
+    count-requires
     same-length-2
     returns-2
-    cast-count
     add-count
     loop-less
     loop-again

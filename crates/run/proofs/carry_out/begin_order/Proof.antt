@@ -51,9 +51,10 @@ returns-4 c =
     let a = c .before .before .before .before .before .before .before .before .before .before .before .before .before .before .before .before .before .before .before .before .before .before .before .before .before .args in
     let room = sym (c .before .before .before .before .before .before .before .before .before .before .before .before .before .before .before .before .before .before .before .has-room .ensures) ∙ granted _ (c .before .before .before .before .before .before .before .before .before .before .before .before .before .before .before .before .before .before .if1 .left) in
     let e = sym (c .before .before .before .before .before .before .before .before .before .before .before .before .before .before .read2 .given .1) ∙ c .before .before .before .before .before .before .before .before .before .before .before .before .before .before .before .before .read-order .ensures in
-    let d = c .before .before .before .before .before .before .before .before .begin-run in
-    (order-begin (a .input .now) (a .state .now) (a .work .now) (a .frames .now) (a .out .now) room _ _ (c .before .before .before .before .before .before .before .before .before .before .before .before .before .before .before .before .before .if2 .left) e (d .ensures .0),
-    kept (read-uses (a .input .now) (a .state .now) (a .work .now) (a .frames .now) (a .out .now) (length (a .state .now)) (length (a .work .now)) room _ (c .before .before .before .before .before .before .before .before .before .before .before .before .before .before .before .before .before .if2 .left) e) _ _ (d .ensures .1))
+    let d = c .before .before .before .before .before .before .before .before .begin-run in (
+      order-begin (a .input .now) (a .state .now) (a .work .now) (a .frames .now) (a .out .now) room _ _ (c .before .before .before .before .before .before .before .before .before .before .before .before .before .before .before .before .before .if2 .left) e (d .ensures .0),
+      kept (read-uses (a .input .now) (a .state .now) (a .work .now) (a .frames .now) (a .out .now) (length (a .state .now)) (length (a .work .now)) room _ (c .before .before .before .before .before .before .before .before .before .before .before .before .before .before .before .before .before .if2 .left) e) _ _ (d .ensures .1),
+    )
 
 pub begin-order-spec : {M : Type 1} → statement M
 begin-order-spec =

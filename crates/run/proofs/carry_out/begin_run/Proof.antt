@@ -26,9 +26,11 @@ returns-2 : tie.Need-returns-2
 returns-2 c =
     let a = c .before .before .before .before .before .before .before .before .before .before .before .before .before .before .before .before .before .before .before .before .before .before .before .before .before .before .args in
     let d = c .before .before .before .before .before .before .before .before .before .before .before .before .before .before .before .before .before .begin in
-    let e = size-is _ (c .before .before .before .before .before .frame-size .ensures) in
-    (begun-accepted (a .settings) (a .places) (a .input .now) (a .state .now) (a .work .now) (a .frames .now) (a .out .now) (d .result) _ _ (d .ensures .0) _ _ (c .before .before .before .before .before .before .before .before .before .begun2 .given .1) (c .answered .result)
-    (rw e at (c .before .before .before .before .frames-in .ensures)) (c .before .advance-at .ensures) (c .answered .ensures), d .ensures .1)
+    let e = size-is _ (c .before .before .before .before .before .frame-size .ensures) in (
+      begun-accepted (a .settings) (a .places) (a .input .now) (a .state .now) (a .work .now) (a .frames .now) (a .out .now) (d .result) _ _ (d .ensures .0) _ _ (c .before .before .before .before .before .before .before .before .before .begun2 .given .1) (c .answered .result)
+          (rw e at (c .before .before .before .before .frames-in .ensures)) (c .before .advance-at .ensures) (c .answered .ensures),
+      d .ensures .1,
+    )
 
 pub begin-run-spec : {M : Type 1} → statement M
 begin-run-spec =

@@ -52,7 +52,7 @@ frame-in-requires c κs =
     turn-room (v .i) (a .count) (a .size) (v .at) _ _ (a .frames .now) (omega arith) (v .inv .1) (v .inv .2) (v .inv .3) refl refl (v .inv .4)
 
 loop-again : tie.Need-loop-again Inv-loop μ-loop
-loop-again c = 
+loop-again c =
     let v = c .before .before .before .before .before .before .loop in
     let a = c .before .before .before .before .before .before .before .before .before .args in
     (omega arith, v .inv .1, v .inv .2, v .inv .3, frames-turn (v .i) (a .count) (a .size) (v .at) _ _ _ (a .frames .now) (omega arith) (v .inv .1) (v .inv .2) (v .inv .3) refl refl (v .inv .4) (c .before .before .frame-in .ensures))

@@ -29,9 +29,10 @@ returns-2 : tie.Need-returns-2
 returns-2 c =
     let a = c .before .before .before .before .before .before .before .before .before .before .before .before .before .before .before .before .before .before .before .before .before .before .before .before .before .args in
     let d = c .before .before .before .before .before .before .before .before .before .before .before .before .before .before .advance in
-    let room = sym (c .before .before .before .before .before .before .before .before .before .before .before .before .before .before .before .before .before .before .before .has-room .ensures) ∙ granted _ (c .before .before .before .before .before .before .before .before .before .before .before .before .before .before .before .before .before .before .if1 .left) in
-    (gone-on (a .job) (a .input .now) (a .state .now) (a .work .now) (a .frames .now) (a .out .now) (d .result) _ _ (d .ensures .0) (c .answered .result) room (c .before .before .before .before .lines-in .ensures) (c .before .left-after .ensures) (c .answered .ensures),
-    kept (room-uses (a .job) (a .input .now) (a .state .now) (a .work .now) (a .frames .now) (a .out .now) (length (a .work .now)) room) _ _ (d .ensures .1))
+    let room = sym (c .before .before .before .before .before .before .before .before .before .before .before .before .before .before .before .before .before .before .before .has-room .ensures) ∙ granted _ (c .before .before .before .before .before .before .before .before .before .before .before .before .before .before .before .before .before .before .if1 .left) in (
+      gone-on (a .job) (a .input .now) (a .state .now) (a .work .now) (a .frames .now) (a .out .now) (d .result) _ _ (d .ensures .0) (c .answered .result) room (c .before .before .before .before .lines-in .ensures) (c .before .left-after .ensures) (c .answered .ensures),
+      kept (room-uses (a .job) (a .input .now) (a .state .now) (a .work .now) (a .frames .now) (a .out .now) (length (a .work .now)) room) _ _ (d .ensures .1),
+    )
 
 pub go-on-spec : {M : Type 1} → statement M
 go-on-spec =

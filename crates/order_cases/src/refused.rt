@@ -2,8 +2,8 @@
 use crate::draft::Asked;
 use crate::table::asked;
 use crate::table::least_bits;
-use cases::digest::of_bits;
 use std::num::wrapping_sub_u64;
+use vectors::bits::of_bits;
 
 pub fn asked_of(k: u32) -> Asked {
     if k < 11 {

@@ -2,7 +2,7 @@
 use crate::draft::Draft;
 use crate::table::asked;
 use crate::table::draft;
-use cases::digest::of_bits;
+use vectors::bits::of_bits;
 
 // One, two, four and eight advances.
 const ONE: u64 = 0x1234567890000000;

@@ -8,9 +8,9 @@ use crate::refused;
 use crate::runs;
 use cases::arguments::after;
 use cases::arguments::argument;
-use cases::digest::bits_of;
 use cases::digest::mixed;
-use cases::digest::of_bits;
+use vectors::bits::bits_of;
+use vectors::bits::of_bits;
 
 pub const ORDERS: u32 = 463;
 

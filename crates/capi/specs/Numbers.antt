@@ -35,5 +35,4 @@ wholeOf (whole-is.Is n) = some n
 
 abbrev pub switchOf : Switch → Option Bool
 switchOf switch-is.Not = none
-switchOf switch-is.No = some false
-switchOf switch-is.Yes = some true
+switchOf (switch-is.Is b) = some b

@@ -1,17 +1,19 @@
 -- What `collapse_begin` and `collapse_advance` answer and leave in the record's slice, in state and frame memory: begin and advance of the
 -- crate run, between reading the slice and laying it out again. Definitions only.
+use mathlib.Core.Bool.{Bool, true, false, cond}
 use mathlib.Core.List.{List}
 use Prim.Native.Nat.{ℕ}
 use lib.Ieee.{Float}
 use lib.ListN.{length}
 use Rattle.vectors.specs.Memory.{put}
 use Rattle.run.specs.Calls.{Began, refusedBegin, accepted, AfterBegin, AfterAdvance, beginOf, beginUses, advanceOf, advanceUses}
-use Rattle.run.specs.Outcome.{Outcome, collapse, broke, timeout, spent}
+use Rattle.run.specs.Outcome.{collapse, broke, timeout, spent}
 use Rattle.run.specs.PlainRun.{option}
 use Rattle.run.specs.Tally.{Reply, refused, full, ran}
 use Rattle.run.specs.declared.settings.Record.{Record}
 use Rattle.capi.specs.Numbers.{zero}
 use Rattle.capi.specs.Layout.{settingsIn, recordIn, laidOut}
+use Rattle.capi.specs.declared.told.Told.{Told}
 
 -- the answer's number, and the three memories that a call may write and whose numbers are told
 pub record AfterCall : Type 0 where
@@ -50,36 +52,25 @@ unfoldable pub beginCallUses : (slice : List Float) → (state work frames : ℕ
 beginCallUses slice state work frames = option (settingsIn slice) (λ s. beginUses s state work frames) 0
 
 -- ---- advance
--- 01's number of a refusal; full and the outcomes have numbers of this crate
-unfoldable pub outcomeNumber : Outcome → ℕ
-outcomeNumber (collapse m) = 21
-outcomeNumber broke = 22
-outcomeNumber timeout = 23
-outcomeNumber spent = 24
+-- 01's number of a refusal, which leaves the slice; full, with its attempts, and the outcomes, collapse with its mass, have numbers of this
+-- crate and are laid out with how many frames were written
+abbrev pub told : (number : ℕ) (lays : Bool) (frames attempts : ℕ) (mass : Float) → Told
+told number lays frames attempts mass = record { number = number; lays = lays; frames = frames; attempts = attempts; mass = mass }
 
-unfoldable pub replyNumber : Reply → ℕ
-unfolding outcomeNumber
-replyNumber (refused n) = n
-replyNumber (full a k) = 20
-replyNumber (ran o k) = outcomeNumber o
+unfoldable pub toldOf : Reply → Told
+toldOf (refused n) = told n false 0 0 zero
+toldOf (full a k) = told 20 true k a zero
+toldOf (ran (collapse m) k) = told 21 true k 0 m
+toldOf (ran broke k) = told 22 true k 0 zero
+toldOf (ran timeout k) = told 23 true k 0 zero
+toldOf (ran spent k) = told 24 true k 0 zero
 
--- the mass of a collapse, else 0
-unfoldable pub massTold : Outcome → Float
-massTold (collapse m) = m
-massTold broke = zero
-massTold timeout = zero
-massTold spent = zero
-
--- the slice that held the record: a refusal leaves it, else it holds the record that advance answered, how many frames were written, full's
--- attempts and collapse's mass
-unfoldable pub replySlice : Reply → Record → List Float → List Float
-unfolding massTold
-replySlice (refused n) r slice = slice
-replySlice (full a k) r slice = put 0 (laidOut r k a zero) slice
-replySlice (ran o k) r slice = put 0 (laidOut r k 0 (massTold o)) slice
+-- the slice that held the record
+unfoldable pub toldSlice : Told → Record → List Float → List Float
+toldSlice t r slice = cond (t .lays) (put 0 (laidOut r (t .frames) (t .attempts) (t .mass)) slice) slice
 
 unfoldable pub advancedCall : List Float → AfterAdvance → AfterCall
-advancedCall slice d = afterCall (replyNumber (d .reply)) (replySlice (d .reply) (d .record′) slice) (d .memory) (d .frames)
+advancedCall slice d = afterCall (toldOf (d .reply) .number) (toldSlice (toldOf (d .reply)) (d .record′) slice) (d .memory) (d .frames)
 
 unfoldable pub advanceCall : (slice memory work frames : List Float) → (budget : ℕ) → AfterCall
 advanceCall slice memory work frames budget =

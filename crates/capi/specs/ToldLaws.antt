@@ -1,5 +1,6 @@
 -- Laws of what the calls answer, by what the slice holds.
 use mathlib.Core.Path.{_≡_, refl, sym, ap, _∙_}
+use mathlib.Core.Bool.{Bool, true, false, cond}
 use mathlib.Core.List.{List}
 use mathlib.Core.Option.{Option, none, some}
 use Prim.Native.Nat.{ℕ}
@@ -10,10 +11,11 @@ use Rattle.run.specs.Calls.{AfterBegin, AfterAdvance, beginOf, beginUses, advan
 use Rattle.run.specs.declared.settings.Settings.{Settings}
 use Rattle.run.specs.declared.settings.Record.{Record}
 use Rattle.run.specs.declared.simulate.Advanced.{Advanced}
-use Rattle.run.specs.declared.simulate.Answer.{Answer}
 use Rattle.run.specs.declared.simulate.Begun.{Begun}
-use Rattle.capi.specs.Layout.{settingsIn, recordIn}
-use Rattle.capi.specs.Told.{AfterCall, afterCall, noRecord, beganNumber, beganSlice, beganCall, beginCall, beginCallUses, replyNumber, replySlice, advancedCall, advanceCall, advanceCallUses}
+use Rattle.vectors.specs.Memory.{put}
+use Rattle.capi.specs.Layout.{settingsIn, recordIn, laidOut}
+use Rattle.capi.specs.declared.told.Told.{Told}
+use Rattle.capi.specs.Told.{AfterCall, afterCall, noRecord, beganNumber, beganSlice, beganCall, beginCall, beginCallUses, toldOf, toldSlice, advancedCall, advanceCall, advanceCallUses}
 
 -- ---- an answer whose case is known
 pub begun-is : {a b : Begun} (n : ℕ) (slice after : List Float) → a ≡ b → n ≡ beganNumber (beganOf b) → after ≡ beganSlice (beganOf b) slice
@@ -21,20 +23,26 @@ pub begun-is : {a b : Begun} (n : ℕ) (slice after : List Float) → a ≡ b �
 begun-is n slice after e f g =
     (f ∙ ap (λ (b : Begun). beganNumber (beganOf b)) (sym e), g ∙ ap (λ (b : Begun). beganSlice (beganOf b) slice) (sym e))
 
-pub answer-is : {a b : Answer} (r : Record) (n : ℕ) (slice after : List Float) → a ≡ b → n ≡ replyNumber (replyOf b) → after ≡ replySlice (replyOf b) r slice
-    → (n ≡ replyNumber (replyOf a)) × (after ≡ replySlice (replyOf a) r slice)
-answer-is r n slice after e f g =
-    (f ∙ ap (λ (b : Answer). replyNumber (replyOf b)) (sym e), g ∙ ap (λ (b : Answer). replySlice (replyOf b) r slice) (sym e))
+pub told-laid : (t u : Told) (r : Record) (slice after : List Float) → t ≡ u → t .lays ≡ true → after ≡ put 0 (laidOut r (t .frames) (t .attempts) (t .mass)) slice
+    → (t .number ≡ u .number) × (after ≡ toldSlice u r slice)
+unfolding toldSlice
+told-laid t u r slice after e f g = (
+  ap (λ (x : Told). x .number) e,
+  g ∙ ap (λ (b : Bool). cond b (put 0 (laidOut r (t .frames) (t .attempts) (t .mass)) slice) slice) (sym f) ∙ ap (λ (x : Told). toldSlice x r slice) e,
+)
+
+pub told-kept : (t u : Told) (r : Record) (slice : List Float) → t ≡ u → t .lays ≡ false → (t .number ≡ u .number) × (slice ≡ toldSlice u r slice)
+unfolding toldSlice
+told-kept t u r slice e f = (
+  ap (λ (x : Told). x .number) e,
+  ap (λ (b : Bool). cond b (put 0 (laidOut r (t .frames) (t .attempts) (t .mass)) slice) slice) (sym f) ∙ ap (λ (x : Told). toldSlice x r slice) e,
+)
 
 -- ---- begin
 module _ (slice memory work frames : List Float) where
   pub begin-none : settingsIn slice ≡ none → afterCall 16 slice memory frames ≡ beginCall slice memory work frames
   unfolding beginCall noRecord
   begin-none e = rw e
-
-  pub begin-none-uses : settingsIn slice ≡ none → beginCallUses slice (length memory) (length work) (length frames) ≡ 0
-  unfolding beginCallUses
-  begin-none-uses e = rw e
 
   pub begin-told : (s : Settings) (b : Begun) (n : ℕ) (slice′ memory′ frames′ : List Float) → settingsIn slice ≡ some s
       → afterBegin b memory′ frames′ ≡ beginOf s memory work frames → n ≡ beganNumber (beganOf b) → slice′ ≡ beganSlice (beganOf b) slice
@@ -56,8 +64,8 @@ module _ (slice memory work frames : List Float) (budget : ℕ) where
   advance-none e = rw e
 
   pub advance-told : (r : Record) (a : Advanced) (n : ℕ) (slice′ memory′ frames′ : List Float) → recordIn slice ≡ some r
-      → afterAdvance a memory′ frames′ ≡ advanceOf r memory work frames budget → n ≡ replyNumber (replyOf (a .answer))
-      → slice′ ≡ replySlice (replyOf (a .answer)) (a .record) slice
+      → afterAdvance a memory′ frames′ ≡ advanceOf r memory work frames budget → n ≡ toldOf (replyOf (a .answer)) .number
+      → slice′ ≡ toldSlice (toldOf (replyOf (a .answer))) (a .record) slice
       → afterCall n slice′ memory′ frames′ ≡ advanceCall slice memory work frames budget
   unfolding advanceCall advancedCall
   advance-told r a n slice′ memory′ frames′ e f g h =

@@ -73,21 +73,13 @@ fn settings_of(
             Whole::Not => Asked::Not,
             Whole::Is(d) => match skips {
                 Switch::Not => Asked::Not,
-                Switch::No => Asked::Is(Settings {
+                Switch::Is(b) => Asked::Is(Settings {
                     amplitude: amplitude,
                     level: l,
                     max_time: max_time,
                     interval: interval,
                     dx_level: d,
-                    skip: false,
-                }),
-                Switch::Yes => Asked::Is(Settings {
-                    amplitude: amplitude,
-                    level: l,
-                    max_time: max_time,
-                    interval: interval,
-                    dx_level: d,
-                    skip: true,
+                    skip: b,
                 }),
             },
         },
@@ -104,17 +96,11 @@ fn record_of(settings: Settings, time: f64, steps: f64, broken: f64) -> Held
         Whole::Not => Held::Not,
         Whole::Is(n) => match mark {
             Switch::Not => Held::Not,
-            Switch::No => Held::Is(Record {
+            Switch::Is(b) => Held::Is(Record {
                 settings: settings,
                 time: time,
                 steps: n,
-                broken: false,
-            }),
-            Switch::Yes => Held::Is(Record {
-                settings: settings,
-                time: time,
-                steps: n,
-                broken: true,
+                broken: b,
             }),
         },
     }

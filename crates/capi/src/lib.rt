@@ -1,24 +1,21 @@
 // Runs for C, Rust and Python to link: begin and advance of the crate run over plain numbers and slices, each a pointer
 // and then a length. include/collapse.h names every function and number.
 ghost use mathlib.Core.Path.{_≡_};
-ghost use Prim.Native.Nat.{_≤_};
 ghost use lib.ListN.{length, drop};
-ghost use Rattle.run.specs.Answers.{replyOf, beganOf};
 ghost use Rattle.capi.specs.Sizes.{stateSizeOf, workSizeOf, frameSizeAt};
-ghost use Rattle.capi.specs.Told.{afterCall, beganNumber, beganSlice, beginCall, beginCallUses, replyNumber, replySlice, advanceCall, advanceCallUses};
+ghost use Rattle.capi.specs.Told.{afterCall, beginCall, beginCallUses, advanceCall, advanceCallUses};
 
 mod layout;
 mod numbers;
+mod told;
 
 use crate::layout::Asked;
 use crate::layout::Held;
-use crate::layout::lay_out;
 use crate::layout::record_in;
 use crate::layout::settings_in;
+use crate::told::tell_advanced;
+use crate::told::tell_begun;
 use run::settings::Settings;
-use run::simulate::Advanced;
-use run::simulate::Answer;
-use run::simulate::Begun;
 use run::simulate::advance;
 use run::simulate::begin;
 use run::state_output_builder::frame_size;
@@ -97,52 +94,6 @@ pub extern "C" fn collapse_advance(
         Held::Is(run) => {
             let advanced = advance(run, state, work, frames, budget);
             tell_advanced(advanced, numbers)
-        }
-    }
-}
-
-// A begin's number, its record laid out unless it was refused.
-fn tell_begun(begun: Begun, numbers: &mut [f64]) -> u32
-    requires { ⌜ 12 ≤ length (now numbers) ⌝ }
-    ensures { λ r. ⌜ (r ≡ beganNumber (beganOf begun)) × (now (numbers .exit) ≡ beganSlice (beganOf begun) (now (numbers .entry))) ⌝ }
-{
-    match begun {
-        Begun::Refused(n) => n as u32,
-        Begun::Accepted(run, count) => {
-            lay_out(run, count, 0, 0.0, numbers);
-            0
-        }
-    }
-}
-
-// An advance's number, its record laid out unless it was refused.
-fn tell_advanced(advanced: Advanced, numbers: &mut [f64]) -> u32
-    requires { ⌜ 12 ≤ length (now numbers) ⌝ }
-    ensures { λ r. ⌜ (r ≡ replyNumber (replyOf (advanced .answer))) × (now (numbers .exit) ≡ replySlice (replyOf (advanced .answer)) (advanced .record) (now (numbers .entry))) ⌝ }
-{
-    let answer = advanced.answer;
-    let run = advanced.record;
-    match answer {
-        Answer::Refused(n) => n as u32,
-        Answer::Full(made, count) => {
-            lay_out(run, count, made, 0.0, numbers);
-            20
-        }
-        Answer::Collapse(mass, count) => {
-            lay_out(run, count, 0, mass, numbers);
-            21
-        }
-        Answer::Broken(count) => {
-            lay_out(run, count, 0, 0.0, numbers);
-            22
-        }
-        Answer::Timeout(count) => {
-            lay_out(run, count, 0, 0.0, numbers);
-            23
-        }
-        Answer::Spent(count) => {
-            lay_out(run, count, 0, 0.0, numbers);
-            24
         }
     }
 }

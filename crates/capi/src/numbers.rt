@@ -17,8 +17,7 @@ pub(crate) enum Whole {
 // A switch, or none.
 pub(crate) enum Switch {
     Not,
-    No,
-    Yes,
+    Is(bool),
 }
 
 // Whether x without its fraction is a whole number of 32 bits.
@@ -47,10 +46,10 @@ pub(crate) fn switch_in(x: f64) -> Switch
     ensures { λ r. ⌜ switchOf r ≡ switchIn x ⌝ }
 {
     if x == 0.0 {
-        return Switch::No;
+        return Switch::Is(false);
     }
     if x == 1.0 {
-        return Switch::Yes;
+        return Switch::Is(true);
     }
     Switch::Not
 }

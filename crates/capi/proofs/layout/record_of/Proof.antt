@@ -22,19 +22,12 @@ returns-2 c =
 
 returns-3 : tie.Need-returns-3
 returns-3 c =
-    let steps = c .before .before .before in
+    let mark = c .before in
+    let steps = mark .before .before .before in
     let calls = steps .before .before in
     let a = calls .before .before .args in
     record-is (a .settings) (a .time) (a .steps) (a .broken) (sym (calls .before .whole-in .ensures) ∙ ap wholeOf (steps .whole-steps .given .1))
-    (sym (calls .switch-in .ensures) ∙ ap switchOf (c .enum-told3 .given .1))
-
-returns-4 : tie.Need-returns-4
-returns-4 c =
-    let steps = c .before .before .before in
-    let calls = steps .before .before in
-    let a = calls .before .before .args in
-    record-is (a .settings) (a .time) (a .steps) (a .broken) (sym (calls .before .whole-in .ensures) ∙ ap wholeOf (steps .whole-steps .given .1))
-    (sym (calls .switch-in .ensures) ∙ ap switchOf (c .enum-told4 .given .1))
+    (sym (calls .switch-in .ensures) ∙ ap switchOf (mark .mark .given .1))
 
 pub record-of-spec : {M : Type 1} → statement M
 record-of-spec =
@@ -46,8 +39,6 @@ record-of-spec =
     (λ c. search needs)
     (λ c. search needs)
     (λ c. search needs)
-    (λ c. search needs)
     returns
     returns-2
-    returns-3
-    returns-4)
+    returns-3)

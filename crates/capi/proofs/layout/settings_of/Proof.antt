@@ -1,8 +1,7 @@
 -- `capi::layout::settings_of` meets its contract.
 use mathlib.Core.Path.{_≡_, sym, ap, _∙_}
-use mathlib.Core.Option.{none, some}
 use borrow.Author.Needs.{needs}
-use Rattle.capi.specs.Numbers.{wholeOf, switchOf, wholeIn}
+use Rattle.capi.specs.Numbers.{wholeOf, switchOf}
 use Rattle.capi.specs.LayoutLaws.{settings-no-level, settings-no-dx, settings-no-skip, settings-are}
 use Rattle.capi.proofs.layout.settings_of.Statement.{statement}
 use Rattle.capi.proofs.layout.settings_of.Tie as tie
@@ -36,25 +35,15 @@ returns-3 c =
 
 returns-4 : tie.Need-returns-4
 returns-4 c =
-    let dx = c .before .before .before in
+    let skip = c .before in
+    let dx = skip .before .before .before in
     let level = dx .before .before .before in
     let calls = level .before .before in
     let a = calls .before .before .before .args in
     settings-are (a .amplitude) (a .level) (a .max-time) (a .interval) (a .dx-level) (a .skip)
     (sym (calls .before .before .whole-in .ensures) ∙ ap wholeOf (level .whole-level .given .1))
     (sym (calls .before .whole-in2 .ensures) ∙ ap wholeOf (dx .whole-dx .given .1))
-    (sym (calls .switch-in .ensures) ∙ ap switchOf (c .enum-told4 .given .1))
-
-returns-5 : tie.Need-returns-5
-returns-5 c =
-    let dx = c .before .before .before in
-    let level = dx .before .before .before in
-    let calls = level .before .before in
-    let a = calls .before .before .before .args in
-    settings-are (a .amplitude) (a .level) (a .max-time) (a .interval) (a .dx-level) (a .skip)
-    (sym (calls .before .before .whole-in .ensures) ∙ ap wholeOf (level .whole-level .given .1))
-    (sym (calls .before .whole-in2 .ensures) ∙ ap wholeOf (dx .whole-dx .given .1))
-    (sym (calls .switch-in .ensures) ∙ ap switchOf (c .enum-told5 .given .1))
+    (sym (calls .switch-in .ensures) ∙ ap switchOf (skip .skips .given .1))
 
 pub settings-of-spec : {M : Type 1} → statement M
 settings-of-spec =
@@ -69,9 +58,7 @@ settings-of-spec =
     (λ c. search needs)
     (λ c. search needs)
     (λ c. search needs)
-    (λ c. search needs)
     returns
     returns-2
     returns-3
-    returns-4
-    returns-5)
+    returns-4)

@@ -1,11 +1,11 @@
--- `capi::tell_begun` meets its contract.
+-- `capi::told::tell_begun` meets its contract.
 use mathlib.Core.Path.{refl}
 use borrow.Author.Needs.{needs}
 use lib.Ieee.{ofBits}
 use Rattle.capi.specs.Told.{beganNumber, beganSlice}
 use Rattle.capi.specs.ToldLaws.{begun-is}
-use Rattle.capi.proofs.tell_begun.Statement.{statement}
-use Rattle.capi.proofs.tell_begun.Tie as tie
+use Rattle.capi.proofs.told.tell_begun.Statement.{statement}
+use Rattle.capi.proofs.told.tell_begun.Tie as tie
 
 returns : tie.Need-returns
 unfolding beganNumber beganSlice

@@ -11,6 +11,7 @@ use lib.Ieee.{Float}
 use lib.ListN.{length, take, drop}
 use lib.Seq.{take-all, drop-at, drop-length, take-append-seam}
 use borrow.Author.Tests.{le-leb, ltb-true, ltb-false}
+use Rattle.vectors.specs.Grid.{pointsOf}
 use Rattle.vectors.specs.Memory.{put}
 use Rattle.vectors.specs.MemoryLaws.{length-put}
 use Rattle.run.specs.declared.settings.Settings.{Settings}
@@ -37,6 +38,11 @@ use Rattle.run.specs.LinesLaws.{Long, textsOf-append, frames-room, each-
 use Rattle.run.specs.OrderLines.{lentState, lentWork, lentFrames, asked, Printed, framesOver, toldLines, afterTold, advanceLines, advancesLines, budgetsFrom, runLines, readLines, linesOf}
 use Rattle.run.specs.OrderLinesLaws.{Lendable, lendable, told-moves, advance-prints}
 use Rattle.run.specs.CarryOut.{jobOf, advanceAt, leftAfter, Turn, advanceTurn, beginTurn, Answered, printed, AfterCall, roomFor, hasRoom, afterTurn, goOnOf, beginRead, beginOrderOf, thenPrinted, printedBy, callsFor, callsIn}
+
+-- ---- what the program lends, in numbers and bytes
+pub lent-lengths : (lentState ≡ 1032) × (lentWork ≡ 5160) × (lentFrames ≡ 8192) × (roomFor lentFrames ≡ 147520)
+unfolding lentState lentWork pointsOf
+lent-lengths = (refl, refl, refl, refl)
 
 -- ---- texts in front of lent bytes
 take-front : (text out : List ℕ) → take (length text) (put 0 text out) ≡ text

@@ -1,18 +1,18 @@
 -- Laws of the record's layout: what the code reads and stores, and that what is laid out is read back as the same record.
-use mathlib.Core.Path.{_≡_, refl, sym, ap, _∙_}
+use mathlib.Core.Path.{_≡_, refl}
 use mathlib.Core.Bool.{Bool, true, false, cond}
-use mathlib.Core.List.{List, [], _∷_, _++_}
+use mathlib.Core.List.{List, [], _∷_}
 use mathlib.Core.Option.{Option, none, some}
 use Prim.Native.Nat.{ℕ, _+_, _≤_, _<_}
 use native.Mathlib.Omega.{arith}
 use borrow.Author.Tests.{leb-true, le-leb, lt-leb}
 use lib.Dec.{leb}
-use lib.Ieee.{Float, nan}
-use lib.ListN.{length, getD, set, length-set}
+use lib.Ieee.{Float}
+use lib.ListN.{length, set}
 use Rattle.vectors.specs.Memory.{put}
 use Rattle.vectors.specs.MemoryLaws.{length-put}
 use Rattle.run.specs.PlainRun.{option}
-use Rattle.run.specs.WriteLaws.{Wrote, wrote-one, wrote-both, wrote-length, put-append}
+use Rattle.run.specs.WriteLaws.{wrote-one, wrote-both, wrote-length, put-append}
 use Rattle.run.specs.declared.settings.Settings.{Settings}
 use Rattle.run.specs.declared.settings.Record.{Record}
 use Rattle.capi.specs.Numbers.{wholeIn, switchIn}

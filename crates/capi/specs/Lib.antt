@@ -6,3 +6,4 @@ pub mod Sizes
 pub mod SizesLaws
 pub mod Told
 pub mod ToldLaws
+pub mod AnswerNumbers

@@ -1,8 +1,6 @@
 -- The sizes are those that begin and advance ask for.
-use mathlib.Core.Path.{_≡_, refl, sym, ap, _∙_}
-use mathlib.Core.Bool.{Bool, cond}
-use Prim.Native.Nat.{ℕ, _+_, _*_, _^_, _≤_, _<_}
-use native.Mathlib.Omega.{arith}
+use mathlib.Core.Path.{_≡_, refl, sym}
+use Prim.Native.Nat.{ℕ, _≤_, _<_}
 use borrow.Author.Tests.{le-leb, lt-leb}
 use Rattle.run.specs.Frames.{samplesOf, frameSizeOf}
 use Rattle.run.specs.Model.{cellCount, workCount, frameCount}

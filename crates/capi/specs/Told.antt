@@ -4,7 +4,6 @@ use mathlib.Core.Bool.{Bool, true, false, cond}
 use mathlib.Core.List.{List}
 use Prim.Native.Nat.{ℕ}
 use lib.Ieee.{Float}
-use lib.ListN.{length}
 use Rattle.vectors.specs.Memory.{put}
 use Rattle.run.specs.Calls.{Began, refusedBegin, accepted, AfterBegin, AfterAdvance, beginOf, beginUses, advanceOf, advanceUses}
 use Rattle.run.specs.Outcome.{collapse, broke, timeout, spent}

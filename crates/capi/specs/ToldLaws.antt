@@ -1,13 +1,13 @@
 -- Laws of what the calls answer, by what the slice holds.
-use mathlib.Core.Path.{_≡_, refl, sym, ap, _∙_}
+use mathlib.Core.Path.{_≡_, sym, ap, _∙_}
 use mathlib.Core.Bool.{Bool, true, false, cond}
 use mathlib.Core.List.{List}
-use mathlib.Core.Option.{Option, none, some}
+use mathlib.Core.Option.{none, some}
 use Prim.Native.Nat.{ℕ}
 use lib.Ieee.{Float}
 use lib.ListN.{length, drop}
 use Rattle.run.specs.Answers.{replyOf, beganOf, afterBegin, afterAdvance}
-use Rattle.run.specs.Calls.{AfterBegin, AfterAdvance, beginOf, beginUses, advanceOf, advanceUses}
+use Rattle.run.specs.Calls.{beginOf, beginUses, advanceOf, advanceUses}
 use Rattle.run.specs.declared.settings.Settings.{Settings}
 use Rattle.run.specs.declared.settings.Record.{Record}
 use Rattle.run.specs.declared.simulate.Advanced.{Advanced}
@@ -15,7 +15,7 @@ use Rattle.run.specs.declared.simulate.Begun.{Begun}
 use Rattle.vectors.specs.Memory.{put}
 use Rattle.capi.specs.Layout.{settingsIn, recordIn, laidOut}
 use Rattle.capi.specs.declared.told.Told.{Told}
-use Rattle.capi.specs.Told.{AfterCall, afterCall, noRecord, beganNumber, beganSlice, beganCall, beginCall, beginCallUses, toldOf, toldSlice, advancedCall, advanceCall, advanceCallUses}
+use Rattle.capi.specs.Told.{afterCall, noRecord, beganNumber, beganSlice, beganCall, beginCall, beginCallUses, toldOf, toldSlice, advancedCall, advanceCall, advanceCallUses}
 
 -- ---- an answer whose case is known
 pub begun-is : {a b : Begun} (n : ℕ) (slice after : List Float) → a ≡ b → n ≡ beganNumber (beganOf b) → after ≡ beganSlice (beganOf b) slice

@@ -1,9 +1,8 @@
 // The floats of a record's slice that stand for a whole number or for a switch.
 ghost use mathlib.Core.Path.{_≡_};
-ghost use mathlib.Core.Bool.{_&&_};
 ghost use lib.IntN.{pos};
 ghost use lib.Ieee.{fin, lt};
-ghost use mathlib.Core.Bool.{true, false};
+ghost use mathlib.Core.Bool.{true, false, _&&_};
 ghost use Rattle.vectors.specs.Constants.{whole};
 ghost use Rattle.capi.specs.Numbers.{wholeIn, switchIn, bit, wholeOf, switchOf};
 use vectors::answer::and_also;

@@ -18,6 +18,7 @@ pub(crate) struct Told {
     pub mass: f64,
 }
 
+// What an answer tells, from its parts.
 fn tells(number: u32, lays: bool, frames: usize, attempts: u32, mass: f64) -> Told
     ensures { λ r. ⌜ r ≡ told number lays frames attempts mass ⌝ }
 {

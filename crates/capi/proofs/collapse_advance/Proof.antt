@@ -2,7 +2,6 @@
 use mathlib.Core.Path.{_≡_, refl, sym, ap, _∙_}
 use mathlib.Core.Option.{some}
 use borrow.Author.Needs.{needs}
-use lib.ListN.{length}
 use Rattle.capi.specs.Layout.{heldOf, recordIn}
 use Rattle.capi.specs.LayoutLaws.{record-long}
 use Rattle.capi.specs.ToldLaws.{advance-none, advance-told, advance-uses, kept-beyond}

@@ -2,7 +2,6 @@
 use mathlib.Core.Path.{_≡_, refl, sym, ap, _∙_}
 use mathlib.Core.Option.{some}
 use borrow.Author.Needs.{needs}
-use lib.ListN.{length}
 use Rattle.capi.specs.Layout.{askedOf, settingsIn}
 use Rattle.capi.specs.LayoutLaws.{settings-long}
 use Rattle.capi.specs.ToldLaws.{begin-none, begin-told, begin-uses, kept-beyond}

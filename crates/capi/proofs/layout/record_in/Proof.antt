@@ -1,11 +1,10 @@
 -- `capi::layout::record_in` meets its contract.
-use mathlib.Core.Path.{_≡_, sym, ap, _∙_}
-use mathlib.Core.Option.{some}
+use mathlib.Core.Path.{sym, ap, _∙_}
 use Prim.Native.Nat.{_≤_}
 use native.Mathlib.Omega.{arith}
 use borrow.Author.Needs.{needs}
 use lib.ListN.{length}
-use Rattle.capi.specs.Layout.{askedOf, settingsIn}
+use Rattle.capi.specs.Layout.{askedOf}
 use Rattle.capi.specs.LayoutLaws.{settings-long, record-none, record-held}
 use Rattle.capi.proofs.layout.record_in.Statement.{statement}
 use Rattle.capi.proofs.layout.record_in.Tie as tie

@@ -1,5 +1,5 @@
 -- `capi::layout::record_of` meets its contract.
-use mathlib.Core.Path.{_≡_, sym, ap, _∙_}
+use mathlib.Core.Path.{sym, ap, _∙_}
 use borrow.Author.Needs.{needs}
 use Rattle.capi.specs.Numbers.{wholeOf, switchOf}
 use Rattle.capi.specs.LayoutLaws.{record-no-steps, record-no-mark, record-is}

@@ -1,0 +1,91 @@
+/* Scalar field collapse in budgets: the functions of crates/capi, for C and whatever calls C. `rt staticlib capi` writes
+   the archive, target/staticlib/libcapi.a, which needs no other library.
+
+   A memory is a pointer to doubles, then how many there are. No two memories of a call may overlap. A memory of length 0
+   is not read, whatever its pointer. Nothing is kept between calls but what the caller lends, so that runs may go on
+   side by side, in threads too.
+
+   Every call takes any numbers and any lengths. One that is refused changes nothing in the record, in state memory and
+   in frame memory. */
+#ifndef COLLAPSE_H
+#define COLLAPSE_H
+
+#include <stddef.h>
+#include <stdint.h>
+
+#ifdef __cplusplus
+extern "C" {
+#endif
+
+/* The record: twelve doubles. The caller writes the settings, 0 to 5, before collapse_begin; collapse_begin and
+   collapse_advance write all twelve, the settings as they read them, unless they refuse. Between calls the caller may
+   copy a record, with its state memory, and go on from either. */
+enum collapse_place {
+    /* settings */
+    COLLAPSE_AT_AMPLITUDE = 0,
+    COLLAPSE_AT_LEVEL = 1,    /* whole: 5 to 16; n = 2^level + 1 points */
+    COLLAPSE_AT_MAX_TIME = 2,
+    COLLAPSE_AT_INTERVAL = 3, /* of time, from frame to frame; at least 1/n */
+    COLLAPSE_AT_DX_LEVEL = 4, /* whole: 0 to level; 2^dx_level + 1 samples of each vector in a frame */
+    COLLAPSE_AT_SKIP = 5,     /* 1: no frames, 0: frames */
+    /* how far the run is */
+    COLLAPSE_AT_TIME = 6,
+    COLLAPSE_AT_STEPS = 7,    /* whole: steps made, over all calls */
+    COLLAPSE_AT_BROKEN = 8,   /* 1: a step would have held a NaN and was not made, else 0 */
+    /* the last call's answer; not read by any call */
+    COLLAPSE_AT_FRAMES = 9,   /* how many frames it wrote */
+    COLLAPSE_AT_ATTEMPTS = 10, /* COLLAPSE_FULL: how many attempts of the budget were made; else 0 */
+    COLLAPSE_AT_MASS = 11,    /* COLLAPSE_COLLAPSED: the black hole's mass; else 0 */
+    COLLAPSE_RECORD_SIZE = 12
+};
+
+/* What collapse_begin and collapse_advance answer. */
+enum collapse_answer {
+    /* collapse_begin: the run has begun */
+    COLLAPSE_BEGUN = 0,
+    /* refusals */
+    COLLAPSE_REFUSED_LEVEL = 5,         /* level below 5 or above 16 */
+    COLLAPSE_REFUSED_INTERVAL = 6,      /* interval times n is below 1 */
+    COLLAPSE_REFUSED_DX_LEVEL = 7,      /* dx level above level */
+    COLLAPSE_REFUSED_MEMORY = 11,       /* state or work memory too short */
+    COLLAPSE_REFUSED_FRAME_MEMORY = 12, /* collapse_begin, not skipped: no room for a frame */
+    COLLAPSE_REFUSED_NAN = 13,          /* collapse_begin: the initial state holds a NaN */
+    COLLAPSE_REFUSED_STEPS = 14,        /* collapse_advance, run not ended: steps + budget above 2147483647 */
+    COLLAPSE_REFUSED_RECORD = 16,       /* no record: fewer than 12 numbers; a level, a dx level or (collapse_advance)
+                                           steps that is no whole number from 0 to 4294967295; a skip or (collapse_advance)
+                                           a broken mark that is neither 0 nor 1. Tested before all else. */
+    /* collapse_advance: how the run stands */
+    COLLAPSE_FULL = 20,      /* the next attempt makes a frame and frame memory has no room; call again with the rest */
+    COLLAPSE_COLLAPSED = 21, /* ended: a black hole formed */
+    COLLAPSE_BROKE = 22,     /* ended: a step would have held a NaN */
+    COLLAPSE_TIMED_OUT = 23, /* ended: past max time */
+    COLLAPSE_SPENT = 24      /* not ended: the budget is used up */
+};
+
+/* How many doubles state and work memory need at a level; 0 for a level outside 5 to 16. */
+size_t collapse_state_size(uint32_t level);
+size_t collapse_work_size(uint32_t level);
+
+/* How many doubles a frame has at a dx level; 0 for a dx level above 16. */
+size_t collapse_frame_size(uint32_t dx_level);
+
+/* Begins the run whose settings the record holds.
+   State memory, at least collapse_state_size doubles, holds the state between calls: field, momentum, alternate mass,
+   energy density, mass, radial factor, lapse, char speed, each of n numbers, one after another.
+   Work memory, at least collapse_work_size doubles, is scratch: what it holds after a call is not told, another may be
+   lent to every call.
+   Frame memory has any length; frames are written from its first number on. A frame is time, then the samples of field,
+   radial gradient, momentum, mass, radial factor, lapse, char speed, energy density, then total energy, then the samples
+   of alternate mass. Unless skipped, collapse_begin writes the first frame. */
+uint32_t collapse_begin(double *record, size_t record_length, double *state, size_t state_length, double *work,
+                        size_t work_length, double *frames, size_t frames_length);
+
+/* Goes on with the run by at most so many attempts. A run that has ended makes none and answers its end again. */
+uint32_t collapse_advance(double *record, size_t record_length, double *state, size_t state_length, double *work,
+                          size_t work_length, double *frames, size_t frames_length, uint32_t budget);
+
+#ifdef __cplusplus
+}
+#endif
+
+#endif

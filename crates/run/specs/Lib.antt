@@ -24,6 +24,8 @@ pub mod Lines
 pub mod LinesLaws
 pub mod Model
 pub mod ModelLaws
+pub mod NanLaws
+pub mod NoNanFrames
 pub mod NotEmpty
 pub mod OneCall
 pub mod Order

@@ -17,7 +17,7 @@ use std::hint::black_box;
 
 const AMPLITUDE: f64 = 10.0;
 /// Samples of each; an odd number, so that the median is one of them.
-const SAMPLES: usize = 15;
+const SAMPLES: usize = 25;
 /// Steps times points of a sample, about.
 const POINTS: usize = 1_000_000;
 /// Steps of a run: across levels at the most, and where it is cut into budgets.

@@ -1,6 +1,7 @@
 //! The Rust side of every comparison: `oracle NAME` prints the cases of one layer and their answers. `oracle order`
 //! answers one order, and `oracle random` compares a program with the answers to random orders.
 mod arguments;
+mod dice;
 mod digest;
 mod domain;
 mod mantissas;

@@ -1,6 +1,7 @@
 //! Random orders, good and damaged: what a program prints for each beside what is expected of it.
 use super::program::lines;
 use super::reader::read;
+use crate::dice::Dice;
 use crate::run::settings::least_interval;
 use std::collections::BTreeMap;
 use std::io::{Read, Write};
@@ -82,34 +83,7 @@ fn talk(child: &mut Child, order: &[u8]) -> Result<Vec<u8>, String> {
     printed.map_err(|why| why.to_string())
 }
 
-/// A generator of orders (splitmix64).
-struct Dice(u64);
-
 impl Dice {
-    fn new(seed: u64, k: u64) -> Dice {
-        Dice(seed.wrapping_mul(0x9E3779B97F4A7C15) ^ k.wrapping_mul(0xD1B54A32D192ED03))
-    }
-
-    fn next(&mut self) -> u64 {
-        self.0 = self.0.wrapping_add(0x9E3779B97F4A7C15);
-        let a = (self.0 ^ (self.0 >> 30)).wrapping_mul(0xBF58476D1CE4E5B9);
-        let b = (a ^ (a >> 27)).wrapping_mul(0x94D049BB133111EB);
-        b ^ (b >> 31)
-    }
-
-    fn below(&mut self, n: usize) -> usize {
-        (self.next() % n as u64) as usize
-    }
-
-    /// From 0 up to 1.
-    fn unit(&mut self) -> f64 {
-        (self.next() >> 11) as f64 / (1u64 << 53) as f64
-    }
-
-    fn choose<T: Copy>(&mut self, from: &[T]) -> T {
-        from[self.below(from.len())]
-    }
-
     /// An order whose run is short.
     fn order(&mut self) -> Vec<u8> {
         loop {

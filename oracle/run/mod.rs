@@ -7,7 +7,7 @@ mod lists;
 mod memories;
 pub mod plain;
 pub mod settings;
-mod tally;
+pub mod tally;
 mod whole;
 
 pub fn print() {

@@ -105,20 +105,23 @@ left-fewer order r j (refused n) h = next-fewer order r j
 left-fewer order r j (ran o k) h = next-fewer order r j
 left-fewer order r j (full a k) h = let z = h a k refl in omega (arith, z .0, z .1)
 
+-- an advance of this run, if there is one
+advance-fair :
+    (order : List ℕ) (room : ℕ) (r : Record) (advances index count : ℕ) → Roomy (r .settings) room →
+    FairNext room (advanceAt order r advances index count)
+unfolding advanceAt
+advance-fair order room r advances index count h = go (ltb index count)
+  where
+    go : (b : Bool) → FairNext room (cond b (some (jobOf r (budgetAt order advances index) advances index count)) none)
+    go true = h
+    go false = tt
+
 left-fair :
     (order : List ℕ) (room : ℕ) (r : Record) (j : Job) (reply : Reply) → Roomy (r .settings) room → FairNext room (leftAfter order j r reply)
-unfolding leftAfter advanceAt
+unfolding leftAfter
 left-fair order room r j (full a k) h = h
-left-fair order room r j (refused n) h = go (ltb (j .index + 1) (j .count))
-  where
-    go : (b : Bool) → FairNext room (cond b (some (jobOf r (budgetAt order (j .advances) (j .index + 1)) (j .advances) (j .index + 1) (j .count))) none)
-    go true = h
-    go false = tt
-left-fair order room r j (ran o k) h = go (ltb (j .index + 1) (j .count))
-  where
-    go : (b : Bool) → FairNext room (cond b (some (jobOf r (budgetAt order (j .advances) (j .index + 1)) (j .advances) (j .index + 1) (j .count))) none)
-    go true = h
-    go false = tt
+left-fair order room r j (refused n) h = advance-fair order room r (j .advances) (j .index + 1) (j .count) h
+left-fair order room r j (ran o k) h = advance-fair order room r (j .advances) (j .index + 1) (j .count) h
 
 module _ (j : Job) (order : List ℕ) (memory work frames : List Float) (out : List ℕ) (roomy : Roomy (j .run .settings) (length frames)) where
   abbrev d : AfterAdvance
@@ -150,7 +153,7 @@ module _ (j : Job) (order : List ℕ) (memory work frames : List Float) (out : L
 -- ---- an accepted begin leaves a job whose frames have room
 module _ (order : List ℕ) (memory work frames : List Float) (out : List ℕ) where
   begun-fair : (s : Settings) (p : Places) → let b = beginOf s memory work frames in FairNext (length frames) (beginTurn order p (b .answer) (b .frames) .next)
-  unfolding beginTurn advanceAt
+  unfolding beginTurn
   begun-fair s p = go (beginRefusal s (length memory) (length work) (length frames)) refl
     where
       go :
@@ -160,11 +163,8 @@ module _ (order : List ℕ) (memory work frames : List Float) (out : List ℕ) w
           subst (λ (b : AfterBegin). FairNext (length frames) (beginTurn order p (b .answer) (b .frames) .next)) (sym (begin-some s memory work frames n e)) tt
       go none e =
           subst (λ (b : AfterBegin). FairNext (length frames) (beginTurn order p (b .answer) (b .frames) .next)) (sym (begin-none s memory work frames e))
-          (first (ltb 0 (p .count)))
-        where
-          first : (b : Bool) → FairNext (length frames) (cond b (some (jobOf (recordOf s (start s)) (budgetAt order (p .advances) 0) (p .advances) 0 (p .count))) none)
-          first true = lendable s (length memory) (length work) (length frames) e .roomy
-          first false = tt
+          (advance-fair order (length frames) (recordOf s (start s)) (p .advances) 0 (p .count)
+          (lendable s (length memory) (length work) (length frames) e .roomy))
 
   pub begin-fair : FairNext (length frames) (nextOf (beginOrderOf order memory work frames out .answer))
   unfolding beginOrderOf

@@ -1,0 +1,10 @@
+pub mod Examples
+pub mod FlatSpace
+pub mod NanLaws
+pub mod NoNanFrames
+pub mod NotEmpty
+pub mod OrderExamples
+pub mod OrderForm
+pub mod OrderFormLaws
+pub mod Recovered
+pub mod ReportExamples

@@ -1,0 +1,1 @@
+// Theorems about runs and orders that no code needs: specs/ has them.

@@ -1,5 +1,6 @@
 pub mod Examples
 pub mod FlatSpace
+pub mod LaterCalls
 pub mod NanLaws
 pub mod NoNanFrames
 pub mod NotEmpty

@@ -28,7 +28,7 @@ pub record AfterSkipped (s : Settings) (budget : ℕ) (d : AfterAdvance) : Type 
   pub record′ : d .record′ ≡ recordOf s (plainRun s budget)
 
 module _ (s : Settings) (skip : s .skip ≡ true) where
-  noRoom-skipped : (S room made : ℕ) → noRoom s S room made ≡ false
+  pub noRoom-skipped : (S room made : ℕ) → noRoom s S room made ≡ false
   unfolding noRoom
   noRoom-skipped S room made =
       rw (framesNext-skipped s (plainRun s (S + made) .state) skip) (and-false (not (hasEnded s (plainRun s (S + made)))))

@@ -24,17 +24,27 @@ use Rattle.run.specs.SkippedRun.{noRoom-skipped}
 use Rattle.claims.specs.FlatSpace.{nought, zeros, ones, flat}
 use Rattle.claims.specs.NotEmpty.{skippedTo, blank, memory, work, fresh, once, ended-is, attempts-one, begins-flat, run-zero, delta, machineAt, sound-skipped, first-skipped, attempt-skipped, run-skipped}
 
--- the advance of a record that has made no step; afterwards the record with the budget added to its steps
-pub countingOf : Record → (memory work frames : List Float) → (budget : ℕ) → AfterAdvance
-countingOf r memory work frames budget =
-    cond (eqb (r .steps) 0)
-    (advanceOf r memory work frames budget)
-    (record {
+-- "only raising the count"
+abbrev raisedOf : Record → (memory frames : List Float) → (budget : ℕ) → AfterAdvance
+raisedOf r memory frames budget =
+    record {
       reply = ran spent 0;
       record′ = record { settings = r .settings; time = r .time; steps = r .steps + budget; broken = r .broken };
       memory = memory;
       frames = frames;
-    })
+    }
+
+-- a record that has made no step is before its "first call"
+pub countingOf : Record → (memory work frames : List Float) → (budget : ℕ) → AfterAdvance
+countingOf r memory work frames budget =
+    cond (eqb (r .steps) 0) (advanceOf r memory work frames budget) (raisedOf r memory frames budget)
+
+raises :
+    (r : Record) (memory work frames : List Float) (budget : ℕ) → eqb (r .steps) 0 ≡ false →
+    countingOf r memory work frames budget ≡ raisedOf r memory frames budget
+unfolding countingOf
+raises r memory work frames budget h =
+    ap (λ (b : Bool). cond b (advanceOf r memory work frames budget) (raisedOf r memory frames budget)) h
 
 -- amplitude 0 and max time 1, which two steps do not reach
 abbrev pub lasting : Settings
@@ -90,8 +100,10 @@ moves =
 
 -- and `countingOf` does not
 stands : countingOf (stepped .record′) (take 264 (stepped .memory)) work (blank 0) 1 .record′ .time ≡ delta
-unfolding countingOf
-stands = rw (ap (λ (m : Machine). eqb (m .steps) 0) (run-skipped one)) (ap (λ (m : Machine). m .state .time) (run-skipped one))
+stands =
+    ap (λ (d : AfterAdvance). d .record′ .time)
+    (raises (stepped .record′) (take 264 (stepped .memory)) work (blank 0) 1 (ap (λ (m : Machine). eqb (m .steps) 0) (run-skipped one)))
+    ∙ ap (λ (m : Machine). m .state .time) (run-skipped one)
 
 later : delta ≡ twice → ⊥
 unfolding lt add round ofBits

@@ -1,5 +1,6 @@
 -- `run::carry_out::left_after` meets its contract.
 use Prim.Native.Nat.{_≤_}
+use native.Mathlib.Omega.{arith}
 use borrow.Author.Needs.{needs}
 use Rattle.run.specs.CarryOut.{leftAfter, Fits}
 use Rattle.run.specs.Answers.{replyOf}
@@ -7,7 +8,7 @@ use Rattle.run.proofs.carry_out.left_after.Statement.{statement}
 use Rattle.run.proofs.carry_out.left_after.Tie as tie
 
 sub-t7 : tie.Need-sub-t7
-sub-t7 c = rw (c .before .before .answer .given .1) at (c .before .before .before .before .before .pre)
+sub-t7 c = omega (arith, rw (c .before .before .answer .given .1) at (c .before .before .before .before .before .pre))
 
 returns : tie.Need-returns
 unfolding leftAfter

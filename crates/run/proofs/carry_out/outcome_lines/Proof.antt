@@ -1,4 +1,5 @@
 -- `run::carry_out::outcome_lines` meets its contract.
+use native.Mathlib.Omega.{arith}
 use borrow.Author.Needs.{needs}
 use Rattle.run.proofs.Carrying.{size-is, line-room, outcome-writes}
 use Rattle.run.proofs.carry_out.outcome_lines.Statement.{statement}
@@ -15,7 +16,8 @@ outcome-in-requires c κs =
     let a = c .before .before .before .before .before .before .before .before .args in
     let pre = c .before .before .before .before .before .before .before .before .pre in
     let e = size-is (a .run .settings) (c .before .before .before .before .frame-size .ensures) in
-    line-room (a .count) _ (a .frames .now) (rw e (pre .1 .1)) (rw e (pre .1 .0)) (pre .0) (c .before .before .before .frames-in .ensures)
+    let room = line-room (a .count) _ (a .frames .now) (rw e (pre .1 .1)) (rw e (pre .1 .0)) (pre .0) (c .before .before .before .frames-in .ensures) in
+    omega arith
 
 returns : tie.Need-returns
 returns c =

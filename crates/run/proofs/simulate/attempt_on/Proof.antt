@@ -1,5 +1,4 @@
 -- `run::simulate::attempt_on` meets its contract.
-use mathlib.Core.Bool.{not}
 use mathlib.Core.Path.{sym, ap, _∙_}
 use Prim.Native.Nat.{ℕ, _+_, _*_, _^_, _≤_, _<_}
 use native.Mathlib.Nat.{le-trans, le-of-eq}
@@ -55,7 +54,7 @@ room-of :
     a .live .count * frameCount (a .live .run .settings) + frameCount (a .live .run .settings) ≤ length (a .frames .now)
 room-of c =
     let start = start-of (c .before) in
-    start .pre .room (frame-due (start .args .clock .framed) (not (tested-of (c .before) .has-nan .result)) (sym (c .before .and-also .ensures) ∙ c .if1 .taken))
+    start .pre .room (frame-due (start .args .clock .framed) _ (sym (c .before .and-also .ensures) ∙ c .if1 .taken))
 
 -- and its count fits a usize
 count-of : (c : tie.Then1) → start-of (c .before) .args .live .count + 1 < 2 ^ 64

@@ -6,13 +6,9 @@ use lib.IntN.{ℤ, pos}
 use lib.ListN.{getD}
 use lib.Ieee.{Float, nan, binary64, add, mul, ofInt}
 
--- a weight times the number at place k
-abbrev pub times : Float → List Float → ℕ → Float
-times w xs k = mul binary64 w (getD xs k nan)
-
 -- weight j times the number at place k
 abbrev pub product : List ℤ → ℕ → List Float → ℕ → Float
-product ws j xs k = times (ofInt binary64 (getD ws j (pos 0))) xs k
+product ws j xs k = mul binary64 (ofInt binary64 (getD ws j (pos 0))) (getD xs k nan)
 
 abbrev pub sum4 : List ℤ → List Float → ℕ → Float
 sum4 ws xs k =

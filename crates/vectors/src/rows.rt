@@ -3,7 +3,7 @@ ghost use mathlib.Core.Path.{_≡_};
 ghost use lib.ListN.{length};
 ghost use Prim.Native.Nat.{_+_, _≤_, _<_};
 ghost use lib.Ieee.{binary64, add};
-ghost use Rattle.vectors.specs.RowSums.{times, sum4, sum5, sum5hollow, sum6, sum6descending, sum7hollow};
+ghost use Rattle.vectors.specs.RowSums.{product, sum4, sum5, sum5hollow, sum6, sum6descending, sum7hollow};
 use crate::answer::fits;
 
 // The rows of `diff`: at points 0 and 1, inside, at n - 2 and n - 1.
@@ -30,28 +30,28 @@ pub const DIFF3: [i16; 7] = [1, -8, 13, 0, -13, 8, -1];
 // The row of `set_left_neumann_bc`: DIFF_LEFT0 without its first weight.
 pub const NEUMANN: [i16; 4] = [48, -36, 16, -3];
 
-// Two products, of the numbers at i and j, and their sum.
-fn first_two(w: f64, x: f64, v: &[f64], i: usize, j: usize) -> f64
-    requires { ⌜ (i < length (now v)) × (j < length (now v)) ⌝ }
-    ensures { λ r. ⌜ r ≡ add binary64 (times w (now (v .entry)) i) (times x (now (v .entry)) j) ⌝ }
+// The first two weights times the numbers at i and j, summed.
+fn first_two(w: &[i16], v: &[f64], i: usize, j: usize) -> f64
+    requires { ⌜ (1 < length (now w)) × (i < length (now v)) × (j < length (now v)) ⌝ }
+    ensures { λ r. ⌜ r ≡ add binary64 (product (now (w .entry)) 0 (now (v .entry)) i) (product (now (w .entry)) 1 (now (v .entry)) j) ⌝ }
 {
-    w * v[i] + x * v[j]
+    (w[0] as f64) * v[i] + (w[1] as f64) * v[j]
 }
 
-// Two products more.
-fn two_more(sum: f64, w: f64, x: f64, v: &[f64], i: usize, j: usize) -> f64
-    requires { ⌜ (i < length (now v)) × (j < length (now v)) ⌝ }
-    ensures { λ r. ⌜ r ≡ add binary64 (add binary64 sum (times w (now (v .entry)) i)) (times x (now (v .entry)) j) ⌝ }
+// The sum with two products more, of weights a and b.
+fn two_more(sum: f64, w: &[i16], a: usize, b: usize, v: &[f64], i: usize, j: usize) -> f64
+    requires { ⌜ (a < length (now w)) × (b < length (now w)) × (i < length (now v)) × (j < length (now v)) ⌝ }
+    ensures { λ r. ⌜ r ≡ add binary64 (add binary64 sum (product (now (w .entry)) a (now (v .entry)) i)) (product (now (w .entry)) b (now (v .entry)) j) ⌝ }
 {
-    sum + w * v[i] + x * v[j]
+    sum + (w[a] as f64) * v[i] + (w[b] as f64) * v[j]
 }
 
-// One product more.
-fn one_more(sum: f64, w: f64, v: &[f64], i: usize) -> f64
-    requires { ⌜ i < length (now v) ⌝ }
-    ensures { λ r. ⌜ r ≡ add binary64 sum (times w (now (v .entry)) i) ⌝ }
+// And with one more.
+fn one_more(sum: f64, w: &[i16], a: usize, v: &[f64], i: usize) -> f64
+    requires { ⌜ (a < length (now w)) × (i < length (now v)) ⌝ }
+    ensures { λ r. ⌜ r ≡ add binary64 sum (product (now (w .entry)) a (now (v .entry)) i) ⌝ }
 {
-    sum + w * v[i]
+    sum + (w[a] as f64) * v[i]
 }
 
 // The sum of a row of four over the numbers from k on; NaN where there are fewer than four.
@@ -68,8 +68,8 @@ fn row4_inside(w: [i16; 4], v: &[f64], k: usize) -> f64
     requires { ⌜ k + 4 ≤ length (now v) ⌝ }
     ensures { λ r. ⌜ r ≡ sum4 w (now (v .entry)) k ⌝ }
 {
-    let sum = first_two(w[0] as f64, w[1] as f64, v, k, k + 1);
-    two_more(sum, w[2] as f64, w[3] as f64, v, k + 2, k + 3)
+    let sum = first_two(&w, v, k, k + 1);
+    two_more(sum, &w, 2, 3, v, k + 2, k + 3)
 }
 
 // The same for a row of five.
@@ -86,9 +86,9 @@ fn row5_inside(w: [i16; 5], v: &[f64], k: usize) -> f64
     requires { ⌜ k + 5 ≤ length (now v) ⌝ }
     ensures { λ r. ⌜ r ≡ sum5 w (now (v .entry)) k ⌝ }
 {
-    let sum = first_two(w[0] as f64, w[1] as f64, v, k, k + 1);
-    let sum = two_more(sum, w[2] as f64, w[3] as f64, v, k + 2, k + 3);
-    one_more(sum, w[4] as f64, v, k + 4)
+    let sum = first_two(&w, v, k, k + 1);
+    let sum = two_more(sum, &w, 2, 3, v, k + 2, k + 3);
+    one_more(sum, &w, 4, v, k + 4)
 }
 
 // The same without the middle product, where that weight is 0.
@@ -105,8 +105,8 @@ fn row5_hollow_inside(w: [i16; 5], v: &[f64], k: usize) -> f64
     requires { ⌜ k + 5 ≤ length (now v) ⌝ }
     ensures { λ r. ⌜ r ≡ sum5hollow w (now (v .entry)) k ⌝ }
 {
-    let sum = first_two(w[0] as f64, w[1] as f64, v, k, k + 1);
-    two_more(sum, w[3] as f64, w[4] as f64, v, k + 3, k + 4)
+    let sum = first_two(&w, v, k, k + 1);
+    two_more(sum, &w, 3, 4, v, k + 3, k + 4)
 }
 
 // The same for a row of six.
@@ -123,9 +123,9 @@ fn row6_inside(w: [i16; 6], v: &[f64], k: usize) -> f64
     requires { ⌜ k + 6 ≤ length (now v) ⌝ }
     ensures { λ r. ⌜ r ≡ sum6 w (now (v .entry)) k ⌝ }
 {
-    let sum = first_two(w[0] as f64, w[1] as f64, v, k, k + 1);
-    let sum = two_more(sum, w[2] as f64, w[3] as f64, v, k + 2, k + 3);
-    two_more(sum, w[4] as f64, w[5] as f64, v, k + 4, k + 5)
+    let sum = first_two(&w, v, k, k + 1);
+    let sum = two_more(sum, &w, 2, 3, v, k + 2, k + 3);
+    two_more(sum, &w, 4, 5, v, k + 4, k + 5)
 }
 
 // The same to the left: the first weight is that of v[k + 5].
@@ -142,9 +142,9 @@ fn row6_descending_inside(w: [i16; 6], v: &[f64], k: usize) -> f64
     requires { ⌜ k + 6 ≤ length (now v) ⌝ }
     ensures { λ r. ⌜ r ≡ sum6descending w (now (v .entry)) k ⌝ }
 {
-    let sum = first_two(w[0] as f64, w[1] as f64, v, k + 5, k + 4);
-    let sum = two_more(sum, w[2] as f64, w[3] as f64, v, k + 3, k + 2);
-    two_more(sum, w[4] as f64, w[5] as f64, v, k + 1, k)
+    let sum = first_two(&w, v, k + 5, k + 4);
+    let sum = two_more(sum, &w, 2, 3, v, k + 3, k + 2);
+    two_more(sum, &w, 4, 5, v, k + 1, k)
 }
 
 // The same for a row of seven without the middle product.
@@ -161,7 +161,7 @@ fn row7_hollow_inside(w: [i16; 7], v: &[f64], k: usize) -> f64
     requires { ⌜ k + 7 ≤ length (now v) ⌝ }
     ensures { λ r. ⌜ r ≡ sum7hollow w (now (v .entry)) k ⌝ }
 {
-    let sum = first_two(w[0] as f64, w[1] as f64, v, k, k + 1);
-    let sum = two_more(sum, w[2] as f64, w[4] as f64, v, k + 2, k + 4);
-    two_more(sum, w[5] as f64, w[6] as f64, v, k + 5, k + 6)
+    let sum = first_two(&w, v, k, k + 1);
+    let sum = two_more(sum, &w, 2, 4, v, k + 2, k + 4);
+    two_more(sum, &w, 5, 6, v, k + 5, k + 6)
 }

@@ -1,9 +1,7 @@
+-- `vectors::rows::row5_hollow_inside` meets its contract.
 use borrow.Author.Needs.{needs}
 use Rattle.vectors.proofs.rows.row5_hollow_inside.Statement.{statement}
 use Rattle.vectors.proofs.rows.row5_hollow_inside.Tie as tie
-
-returns : tie.Need-returns
-returns c = rw (c .two-more .ensures, c .before .before .before .before .before .first-two .ensures) (search needs)
 
 pub row5-hollow-inside-spec : {M : Type 1} → statement M
 row5-hollow-inside-spec =
@@ -11,15 +9,9 @@ row5-hollow-inside-spec =
     (tie.spec
     (λ c. search needs)
     (λ c. search needs)
-    (λ c. search needs)
-    (λ c. search needs)
-    (λ c. search needs)
     (λ c κs. search needs)
     (λ c. search needs)
     (λ c. search needs)
     (λ c. search needs)
-    (λ c. search needs)
-    (λ c. search needs)
-    (λ c. search needs)
     (λ c κs. search needs)
-    returns)
+    (λ c. cc))

@@ -1,9 +1,7 @@
+-- `vectors::rows::row5_inside` meets its contract.
 use borrow.Author.Needs.{needs}
 use Rattle.vectors.proofs.rows.row5_inside.Statement.{statement}
 use Rattle.vectors.proofs.rows.row5_inside.Tie as tie
-
-returns : tie.Need-returns
-returns c = rw (c .one-more .ensures, c .before .before .before .two-more .ensures, c .before .before .before .before .before .before .before .before .first-two .ensures) (search needs)
 
 pub row5-inside-spec : {M : Type 1} → statement M
 row5-inside-spec =
@@ -11,19 +9,12 @@ row5-inside-spec =
     (tie.spec
     (λ c. search needs)
     (λ c. search needs)
-    (λ c. search needs)
-    (λ c. search needs)
-    (λ c. search needs)
-    (λ c κs. search needs)
-    (λ c. search needs)
-    (λ c. search needs)
-    (λ c. search needs)
-    (λ c. search needs)
-    (λ c. search needs)
-    (λ c. search needs)
     (λ c κs. search needs)
     (λ c. search needs)
     (λ c. search needs)
     (λ c. search needs)
     (λ c κs. search needs)
-    returns)
+    (λ c. search needs)
+    (λ c. search needs)
+    (λ c κs. search needs)
+    (λ c. cc))

@@ -1,9 +1,7 @@
+-- `vectors::rows::row6_descending_inside` meets its contract.
 use borrow.Author.Needs.{needs}
 use Rattle.vectors.proofs.rows.row6_descending_inside.Statement.{statement}
 use Rattle.vectors.proofs.rows.row6_descending_inside.Tie as tie
-
-returns : tie.Need-returns
-returns c = rw (c .two-more2 .ensures, c .before .before .before .before .before .two-more .ensures, c .before .before .before .before .before .before .before .before .before .before .first-two .ensures) (search needs)
 
 pub row6-descending-inside-spec : {M : Type 1} → statement M
 row6-descending-inside-spec =
@@ -12,21 +10,12 @@ row6-descending-inside-spec =
     (λ c. search needs)
     (λ c. search needs)
     (λ c. search needs)
+    (λ c κs. search needs)
     (λ c. search needs)
     (λ c. search needs)
     (λ c. search needs)
     (λ c κs. search needs)
     (λ c. search needs)
     (λ c. search needs)
-    (λ c. search needs)
-    (λ c. search needs)
-    (λ c. search needs)
-    (λ c. search needs)
     (λ c κs. search needs)
-    (λ c. search needs)
-    (λ c. search needs)
-    (λ c. search needs)
-    (λ c. search needs)
-    (λ c. search needs)
-    (λ c κs. search needs)
-    returns)
+    (λ c. cc))

@@ -28,15 +28,15 @@ module _ (n k : ℕ) (g : List Float → ℕ → Float) where
       law (slots n E 0) (ap length (sym is) ∙ ap length (lent-slot n 0 (1 * n) w e) ∙ length-slot n 0 w (omega arith)) is)
 
   -- the pass
-  pub difference-pass : {i : ℕ} {w' : List Float} {a b y z : Float} (w : List Float) → 4 ≤ n → n ≤ length w → k * n + n ≤ length w → i ≡ n - 2
-      → Grown (k * n) 2 i (λ E. g (slots n E 0)) (set (set w (k * n) a) (k * n + 1) b) w'
+  pub difference-pass : {w' : List Float} {a b y z : Float} (w : List Float) → 4 ≤ n → n ≤ length w → k * n + n ≤ length w
+      → Grown (k * n) 2 (n - 2) (λ E. g (slots n E 0)) (set (set w (k * n) a) (k * n + 1) b) w'
       → ((xs : List Float) → length xs ≡ n → lentField n w ≡ xs → (a ≡ g xs 0) × (b ≡ g xs 1) × (y ≡ g xs (n - 2)) × (z ≡ g xs (n - 1)))
       → Became n (λ S. upd k (tab (length (S 0)) (g (S 0))) S) w (set (set w' (k * n + (n - 2)) y) (k * n + (n - 1)) z)
-  difference-pass w m l fits e G law =
+  difference-pass w m l fits G law =
       let xs = slots n w 0 in
       let q : 1 * n ≡ 0 * n + n = omega arith in
       let long = length-slot n 0 w (omega arith) in
       let ends = law xs long (lent-slot n 0 (1 * n) w q) in
       let inner = G .grow w (step (step (filled-none (k * n) (g xs) w) (sym (add-zero (k * n))) (ends .0)) refl (ends .1)) in
       wrote n k (λ S. tab (length (S 0)) (g (S 0))) w _ (length-tab (length xs) (g xs) ∙ long) fits
-      (filled-put {n = length xs} nan (step-at (n - 1) (step-at (n - 2) inner (ends .2) e refl (omega arith)) (ends .3) refl refl (omega arith)) (omega arith))
+      (filled-put {n = length xs} nan (step-at (n - 1) (step-at (n - 2) inner (ends .2) refl refl (omega arith)) (ends .3) refl refl (omega arith)) (omega arith))

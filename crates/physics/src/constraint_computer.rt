@@ -1,12 +1,16 @@
 // The constraints of constraint_computer.rs, in the slots of slots.rt.
 ghost use mathlib.Core.Path.{_≡_};
-ghost use Prim.Native.Nat.{_+_, _*_, _<_, _≤_};
+ghost use Prim.Native.Nat.{_+_, _-_, _*_, _<_, _≤_};
 ghost use lib.ListN.{length};
 ghost use Rattle.vectors.specs.Memory.{put};
+ghost use Rattle.vectors.specs.MemoryLaws.{Grown};
+ghost use Rattle.vectors.specs.Stencil.{diffAt};
 ghost use lib.Ieee.{binary64, mul, div};
 ghost use Rattle.physics.specs.Constraints.{integrandAt, energyDensityAt, massAt, radialFactorAt};
+ghost use Rattle.physics.specs.Fills.{Grown2};
 ghost use Rattle.physics.specs.Slots.{slots, Became};
-ghost use Rattle.physics.specs.Passes.{Room, Ready, gradients, integrands, normals, lapses, radials, radialFactors, energies, constraints, fullConstraints};
+ghost use Rattle.physics.specs.Vector.{at};
+ghost use Rattle.physics.specs.Passes.{Room, Ready, radialVal, speedVal, gradients, integrands, normals, lapses, radials, radialFactors, energies, constraints, fullConstraints};
 use crate::integration::integrate;
 use vectors::exp::exp_all;
 use vectors::field_vector::reciprocal;
@@ -36,7 +40,6 @@ pub(crate) fn compute_radial_gradient(h: f64, n: usize, w: &mut [f64])
     ensures { λ _. ⌜ Became n (gradients h) (now (w .entry)) (now (w .exit)) ⌝ }
 {
     let d = 12.0 * h;
-    let len = w.len();
     let field = 0 * n;
     let end = 1 * n;
     let to = 8 * n;
@@ -47,13 +50,27 @@ pub(crate) fn compute_radial_gradient(h: f64, n: usize, w: &mut [f64])
     let right0 = row5(DIFF_RIGHT0, v, n - 5) / d;
     w[to] = left0;
     w[to + 1] = left1;
+    radial_gradient_inner(h, n, w);
+    w[to + (n - 2)] = right1;
+    w[to + (n - 1)] = right0;
+}
+
+// The same but for the two points at each end.
+fn radial_gradient_inner(h: f64, n: usize, w: &mut [f64])
+    requires { ⌜ Room n (length (now w)) ⌝ }
+    ensures { λ _. ⌜ (length (now (w .exit)) ≡ length (now (w .entry)))
+        × Grown (8 * n) 2 (n - 2) (λ E. diffAt h (slots n E 0)) (now (w .entry)) (now (w .exit)) ⌝ }
+{
+    let d = 12.0 * h;
+    let len = w.len();
+    let field = 0 * n;
+    let end = 1 * n;
+    let to = 8 * n;
     let mut i = 2;
     while i < n - 2 {
         w[to + i] = row5_hollow(DIFF_INNER, &w[field..end], i - 2) / d;
         i += 1;
     }
-    w[to + (n - 2)] = right1;
-    w[to + (n - 1)] = right0;
 }
 
 // Slot 6: the lapse, and slot 9: 1 over it.
@@ -143,16 +160,30 @@ fn radial_factor_and_char_speed(n: usize, w: &mut [f64])
     requires { ⌜ Room n (length (now w)) ⌝ }
     ensures { λ _. ⌜ Became n (radials n) (now (w .entry)) (now (w .exit)) ⌝ }
 {
+    let radial_factor = 5 * n;
+    let lapse = 6 * n;
+    let char_speed = 7 * n;
+    let integral = 10 * n;
+    let first = w[integral];
+    let x = quotient(1.0, w[lapse]);
+    w[radial_factor] = 1.0;
+    w[char_speed] = x;
+    radial_factor_and_char_speed_from_1(n, first, w);
+}
+
+// The same from point 1 on, where first is the integral at point 0.
+fn radial_factor_and_char_speed_from_1(n: usize, first: f64, w: &mut [f64])
+    requires { ⌜ Room n (length (now w)) ⌝ }
+    ensures { λ _. ⌜ (length (now (w .exit)) ≡ length (now (w .entry)))
+        × Grown2 (5 * n) (7 * n) 1 n (λ E. radialVal (at (slots n E 19)) (slots n E 6) (slots n E 10) first)
+        (λ E. speedVal (at (slots n E 19)) (slots n E 6) (slots n E 10) first) (now (w .entry)) (now (w .exit)) ⌝ }
+{
     let len = w.len();
     let radial_factor = 5 * n;
     let lapse = 6 * n;
     let char_speed = 7 * n;
     let integral = 10 * n;
     let points = 19 * n;
-    let first = w[integral];
-    let x = quotient(1.0, w[lapse]);
-    w[radial_factor] = 1.0;
-    w[char_speed] = x;
     let mut i = 1;
     while i < n {
         let a = radial_factor_at(w[lapse + i], w[points + i], w[integral + i], first);

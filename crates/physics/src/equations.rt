@@ -1,16 +1,17 @@
 // The equations of motion of equations.rs, in the slots of slots.rt.
 ghost use mathlib.Core.Path.{_≡_};
-ghost use Prim.Native.Nat.{_+_, _*_, _<_, _≤_};
+ghost use Prim.Native.Nat.{_+_, _-_, _*_, _<_, _≤_};
 ghost use lib.ListN.{length};
 ghost use lib.Ieee.{binary64, add, mul, div};
 ghost use Rattle.vectors.specs.Dissipation.{dissipationScale};
 ghost use Rattle.vectors.specs.Memory.{tab, part, put};
 ghost use Rattle.vectors.specs.MemoryLaws.{Grown};
+ghost use Rattle.vectors.specs.Stencil.{diff2At};
 ghost use Rattle.vectors.specs.StencilLaws.{eight};
 ghost use Rattle.physics.specs.Equations.{fieldRateAt, momentumRateAt, originRateAt, massRateAt, boundedOf};
 ghost use Rattle.physics.specs.Slots.{slots, Became};
 ghost use Rattle.physics.specs.Vector.{at};
-ghost use Rattle.physics.specs.Passes.{Room, Inside, ReadyEquations, Run, HalfRun, halfVal, halfOn, halves, seconds, dampingVal, dampings, fieldRates, momentumRates, massRates, rates, derivatives, bounds};
+ghost use Rattle.physics.specs.Passes.{Room, Inside, ReadyEquations, Run, HalfRun, halfVal, halfOn, halves, seconds, dampingVal, dampings, fieldRates, momentumRateIn, momentumRates, massRates, rates, derivatives, bounds};
 use vectors::constants::DISSIPATION_FACTOR;
 use vectors::grid::delta;
 use vectors::rows::DIFF2_EDGE0;
@@ -104,7 +105,6 @@ fn second_difference(h: f64, n: usize, w: &mut [f64])
     ensures { λ _. ⌜ Became n (seconds h) (now (w .entry)) (now (w .exit)) ⌝ }
 {
     let d = 12.0 * (h * h);
-    let len = w.len();
     let field = 0 * n;
     let end = 1 * n;
     let to = 9 * n;
@@ -115,13 +115,27 @@ fn second_difference(h: f64, n: usize, w: &mut [f64])
     let right0 = row6_descending(DIFF2_EDGE0, v, n - 6) / d;
     w[to] = left0;
     w[to + 1] = left1;
+    second_difference_inner(h, n, w);
+    w[to + (n - 2)] = right1;
+    w[to + (n - 1)] = right0;
+}
+
+// The same but for the two points at each end.
+fn second_difference_inner(h: f64, n: usize, w: &mut [f64])
+    requires { ⌜ Room n (length (now w)) ⌝ }
+    ensures { λ _. ⌜ (length (now (w .exit)) ≡ length (now (w .entry)))
+        × Grown (9 * n) 2 (n - 2) (λ E. diff2At h (slots n E 0)) (now (w .entry)) (now (w .exit)) ⌝ }
+{
+    let d = 12.0 * (h * h);
+    let len = w.len();
+    let field = 0 * n;
+    let end = 1 * n;
+    let to = 9 * n;
     let mut i = 2;
     while i < n - 2 {
         w[to + i] = row5(DIFF2_INNER, &w[field..end], i - 2) / d;
         i += 1;
     }
-    w[to + (n - 2)] = right1;
-    w[to + (n - 1)] = right0;
 }
 
 fn compute_rates(n: usize, scale: f64, w: &mut [f64])
@@ -207,6 +221,18 @@ fn calculate_dt_conj_momentum(n: usize, w: &mut [f64])
     requires { ⌜ Room n (length (now w)) ⌝ }
     ensures { λ _. ⌜ Became n (momentumRates n) (now (w .entry)) (now (w .exit)) ⌝ }
 {
+    let lapse = 6 * n;
+    let second = 9 * n;
+    let to = 14 * n;
+    w[to] = dt_conj_momentum_at_origin(w[second], w[lapse], w[to]);
+    calculate_dt_conj_momentum_from_1(n, w);
+}
+
+fn calculate_dt_conj_momentum_from_1(n: usize, w: &mut [f64])
+    requires { ⌜ Room n (length (now w)) ⌝ }
+    ensures { λ _. ⌜ (length (now (w .exit)) ≡ length (now (w .entry)))
+        × Grown (14 * n) 1 n (λ E. momentumRateIn (slots n E)) (now (w .entry)) (now (w .exit)) ⌝ }
+{
     let len = w.len();
     let radial_factor = 5 * n;
     let lapse = 6 * n;
@@ -215,7 +241,6 @@ fn calculate_dt_conj_momentum(n: usize, w: &mut [f64])
     let second = 9 * n;
     let to = 14 * n;
     let points = 19 * n;
-    w[to] = dt_conj_momentum_at_origin(w[second], w[lapse], w[to]);
     let mut i = 1;
     while i < n {
         w[to + i] = dt_conj_momentum_at(

@@ -6,7 +6,8 @@ ghost use Rattle.vectors.specs.Answer.{numberOf};
 ghost use Rattle.vectors.specs.Fault.{faultOf};
 ghost use Rattle.vectors.specs.Grid.{pointsOf};
 ghost use Rattle.vectors.specs.Memory.{part, put};
-ghost use Rattle.physics.specs.Integral.{quadraticOver, simpsonOver, eighthsOver, integralOf};
+ghost use Rattle.vectors.specs.MemoryLaws.{Grown};
+ghost use Rattle.physics.specs.Integral.{quadraticOver, simpsonOver, eighthsOver, integralAt, integralOf};
 ghost use Rattle.physics.specs.Rk4.{rk4Of};
 ghost use Rattle.physics.specs.Slots.{slots, Became};
 ghost use Rattle.physics.specs.Passes.{Room, Target, grids};
@@ -251,7 +252,6 @@ pub(crate) fn integrate(h: f64, n: usize, to: usize, w: &mut [f64])
     requires { ⌜ Target n (length (now w)) to ⌝ }
     ensures { λ _. ⌜ now (w .exit) ≡ put to (integralOf h (slots n (now (w .entry)) 9)) (now (w .entry)) ⌝ }
 {
-    let len = w.len();
     let from = 9 * n;
     let end = 10 * n;
     let v = &w[from..end];
@@ -260,6 +260,18 @@ pub(crate) fn integrate(h: f64, n: usize, to: usize, w: &mut [f64])
     w[to] = 0.0;
     w[to + 1] = second;
     w[to + 2] = third;
+    integrate_from_3(h, n, to, w);
+}
+
+// The same from point 3 on, where it stands before it.
+fn integrate_from_3(h: f64, n: usize, to: usize, w: &mut [f64])
+    requires { ⌜ Target n (length (now w)) to ⌝ }
+    ensures { λ _. ⌜ (length (now (w .exit)) ≡ length (now (w .entry)))
+        × Grown to 3 n (λ E. integralAt h (slots n E 9)) (now (w .entry)) (now (w .exit)) ⌝ }
+{
+    let len = w.len();
+    let from = 9 * n;
+    let end = 10 * n;
     let mut i = 3;
     while i < n {
         let odd = w[to + (i - 3)] + eighths_over(h, &w[from..end], i);

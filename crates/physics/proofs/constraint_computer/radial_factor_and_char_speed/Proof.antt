@@ -1,62 +1,35 @@
 -- `radial_factor_and_char_speed` meets its contract.
-use mathlib.Core.Path.{_≡_, refl, sym, ap, _∙_}
-use Prim.Native.Nat.{_≤_, _-_}
+use mathlib.Core.Path.{refl, sym, ap, _∙_}
 use native.Mathlib.Nat.{add-zero}
 use native.Mathlib.Omega.{arith}
-use lib.ListN.{length, length-set}
+use lib.ListN.{length-set}
 use lib.Ieee.{nan, binary64, div, ofBits, ofInt}
-use borrow.Author.Tests.{ne-eqb}
-use Rattle.physics.specs.Fills.{Grown2, grown2-none, grown2-step, filled2-none, filled2-put, step2}
-use Rattle.physics.specs.Slots.{slots, slots-apart, slot-first, reads2}
-use Rattle.physics.specs.Vector.{at}
-use Rattle.physics.specs.Passes.{radialVal, speedVal}
+use Rattle.physics.specs.Fills.{filled2-none, filled2-put, step2}
+use Rattle.physics.specs.Slots.{slots-apart, slot-first}
 use Rattle.physics.specs.ConstraintLaws.{radials-wrote}
 use borrow.Author.Needs.{needs}
 use Rattle.physics.proofs.constraint_computer.radial_factor_and_char_speed.Statement.{statement}
 use Rattle.physics.proofs.constraint_computer.radial_factor_and_char_speed.Tie as tie
 
--- both vectors stand before i
-abbrev Inv-loop : tie.InvT-loop
-Inv-loop n w₀ len radial lapse speed integral points first x i₀ w i =
-    (1 ≤ i) × (i ≤ n) × (length w ≡ len)
-    × Grown2 radial speed i₀ i (λ E. radialVal (at (slots n E 19)) (slots n E 6) (slots n E 10) first) (λ E. speedVal (at (slots n E 19)) (slots n E 6) (slots n E 10) first) w₀ w
+same-length : tie.Need-same-length
+same-length c = c .before .before .radial-factor-and-char-speed-from-1 .ensures .0 ∙ simp length-set
 
-abbrev μ-loop : tie.MeasureT-loop
-μ-loop n w₀ len radial lapse speed integral points first x i₀ w i = n - i
-
-loop-again : tie.Need-loop-again Inv-loop μ-loop
-loop-again c =
-    let turn = c .before .before .before .before .before .before .before in
-    let n = turn .before .before .before .before .before .args .n in
-    let i = turn .loop .i in (
-      omega arith,
-      omega arith,
-      simp length-set (omega arith),
-      grown2-step n (turn .loop .inv .3) (omega arith) (slots-apart n 5 7 refl) refl refl (λ E f.
-          let lapse = reads2 n 5 7 6 i f (omega arith) refl refl (omega arith) in
-          let x = c .before .before .radial-factor-at .ensures
-          ∙ rw (lapse, reads2 n 5 7 19 i f (omega arith) refl refl (omega arith), reads2 n 5 7 10 i f (omega arith) refl refl (omega arith), ne-eqb i 0 (λ e. omega arith)) in
-          (x, c .quotient2 .ensures ∙ rw (x, lapse))),
-    )
-
-returns : tie.Need-returns Inv-loop μ-loop
+returns : tie.Need-returns
 unfolding ofBits ofInt
 returns c =
-    let made = c .before .before in
+    let rest = c .before .before in
+    let made = rest .before .before in
     let a = made .before .before .before .before .args in
     let n = a .n in
     let w = a .w .now in
     let x = made .quotient .ensures ∙ ap (div binary64 _) (slot-first n 6 w (omega arith)) in
     radials-wrote n w _ _ (slot-first n 10 w (omega arith)) (omega arith)
-    (filled2-put n nan (c .before .loop .inv .3 .grow w (step2 n (filled2-none _ _ _ _ w) (omega arith) (slots-apart n 5 7 refl) (sym (add-zero _)) (sym (add-zero _)) refl x)) (omega arith) (omega arith) (omega arith))
+    (filled2-put n nan (rest .radial-factor-and-char-speed-from-1 .ensures .1 .grow w (step2 n (filled2-none _ _ _ _ w) (omega arith) (slots-apart n 5 7 refl) (sym (add-zero _)) (sym (add-zero _)) refl x)) refl (omega arith) (omega arith))
 
 pub radial-factor-and-char-speed-spec : {M : Type 1} → statement M
 radial-factor-and-char-speed-spec =
     tie.close
     (tie.spec
-    Inv-loop
-    μ-loop
-    (λ c. search needs)
     (λ c. search needs)
     (λ c. search needs)
     (λ c. search needs)
@@ -70,29 +43,6 @@ radial-factor-and-char-speed-spec =
     (λ c. search needs)
     (λ c. search needs)
     (λ c. simp length-set (omega arith))
-    (λ c. (omega arith, omega arith, simp length-set (omega arith), grown2-none _ _ 1 _ _ _))
-    (λ c. search needs)
-    (λ c. search needs)
-    (λ c. search needs)
-    (λ c. search needs)
-    (λ c. search needs)
-    (λ c. search needs)
-    (λ c. search needs)
-    (λ c. search needs)
-    (λ c. search needs)
     (λ c κs. search needs)
-    (λ c. search needs)
-    (λ c. search needs)
-    (λ c. search needs)
-    (λ c κs. search needs)
-    (λ c. search needs)
-    (λ c. search needs)
-    (λ c. search needs)
-    (λ c. search needs)
-    (λ c. search needs)
-    (λ c. simp length-set (omega arith))
-    (λ c. search needs)
-    (λ c. search needs)
-    loop-again
-    (λ c. search needs)
+    same-length
     returns)

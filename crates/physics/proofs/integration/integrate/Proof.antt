@@ -14,39 +14,13 @@ use borrow.Author.Needs.{needs}
 use Rattle.physics.proofs.integration.integrate.Statement.{statement}
 use Rattle.physics.proofs.integration.integrate.Tie as tie
 
--- the integral stands before i, which is odd
-abbrev Inv-loop : tie.InvT-loop
-Inv-loop h n to w₀ len from end second third i₀ w i = (3 ≤ i) × (i ≤ n) × (i % 2 ≡ 1) × (length w ≡ len) × Grown to i₀ i (λ E. integralAt h (slots n E 9)) w₀ w
+same-length : tie.Need-same-length
+same-length c = c .before .before .integrate-from-3 .ensures .0 ∙ simp length-set
 
-abbrev μ-loop : tie.MeasureT-loop
-μ-loop h n to w₀ len from end second third i₀ w i = n - i
-
-loop-again : tie.Need-loop-again Inv-loop μ-loop
-unfolding slots
-loop-again c =
-    let first = c .before .before .before .before in
-    let turn = first .before .before .before .before .before in
-    let start = turn .before .before .before .before .before .before in
-    let a = start .args in
-    let n = a .n in
-    let i = turn .loop .i in
-    let ten : 10 * n ≡ 9 * n + n = omega arith in
-    let e : i - 1 ≡ i + 1 - 2 = omega arith in (
-      omega arith,
-      omega arith,
-      omega arith,
-      simp length-set (omega arith),
-      grown-pair (turn .loop .inv .4) refl refl
-          (λ E f. rw (first .eighths-over .ensures, lent (9 * n) (10 * n) n _ ten, filled-part n (9 * n) n nan f (omega arith) (start .pre .far), filled-own (i - 3) nan f (omega arith) (omega arith))
-          (integral-odd (a .h) _ i (omega arith) (omega arith)))
-          (λ E f. rw (c .simpson-over2 .ensures, lent (9 * n) (10 * n) n _ ten, filled-part n (9 * n) n nan f (omega arith) (start .pre .far), filled-own (i - 1) nan f (omega arith) (simp length-set (omega arith)), e)
-          (integral-even (a .h) _ (i + 1) (omega arith) (omega arith))),
-    )
-
-returns : tie.Need-returns Inv-loop μ-loop
+returns : tie.Need-returns
 returns c =
-    let turn = c .before in
-    let made = turn .before in
+    let on = c .before .before in
+    let made = on .before .before in
     let start = made .before .before .before .before .before in
     let a = start .args in
     let n = a .n in
@@ -54,19 +28,16 @@ returns c =
     let w = a .w .now in
     let v = slots n w 9 in
     let is = lent-slot n 9 (10 * n) w (omega arith) in
-    let F = turn .loop .inv .4 .grow w
+    let F = on .integrate-from-3 .ensures .1 .grow w
     (step (step (step (filled-none _ (integralAt h v) w) (sym (add-zero _)) (integral-zero h v)) refl
     (made .before .quadratic-over .ensures ∙ ap (quadraticOver h) is ∙ integral-one h v)) refl
     (made .simpson-over .ensures ∙ ap (λ xs. simpsonOver h xs 2) is ∙ integral-two h v)) in
-    let e : turn .loop .i ≡ n = omega arith in
-    filled-put nan (rw e at F) (omega arith) ∙ rw (integral-tab h v n (length-slot n 9 w (omega arith)))
+    filled-put nan F (omega arith) ∙ rw (integral-tab h v n (length-slot n 9 w (omega arith)))
 
 pub integrate-spec : {M : Type 1} → statement M
 integrate-spec =
     tie.close
     (tie.spec
-    Inv-loop
-    μ-loop
     (λ c. search needs)
     (λ c. search needs)
     (λ c. search needs)
@@ -83,35 +54,6 @@ integrate-spec =
     (λ c. search needs)
     (λ c. search needs)
     (λ c. simp length-set (omega arith))
-    (λ c. (omega arith, omega arith, refl, simp length-set (omega arith), grown-none _ 3 _ _))
-    (λ c. search needs)
-    (λ c. search needs)
-    (λ c. search needs)
-    (λ c. search needs)
-    (λ c. search needs)
-    (λ c. search needs)
-    (λ c. search needs)
-    (λ c. search needs)
     (λ c κs. search needs)
-    (λ c. search needs)
-    (λ c. search needs)
-    (λ c. search needs)
-    (λ c. search needs)
-    (λ c. search needs)
-    (λ c. search needs)
-    (λ c. simp length-set (omega arith))
-    (λ c. search needs)
-    (λ c. search needs)
-    (λ c. search needs)
-    (λ c. simp length-set (omega arith))
-    (λ c. search needs)
-    (λ c κs. search needs)
-    (λ c. search needs)
-    (λ c. search needs)
-    (λ c. search needs)
-    (λ c. simp length-set (omega arith))
-    (λ c. search needs)
-    (λ c. search needs)
-    loop-again
-    (λ c. search needs)
+    same-length
     returns)

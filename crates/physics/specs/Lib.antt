@@ -14,6 +14,7 @@ pub mod Integral
 pub mod IntegralLaws
 pub mod Nan
 pub mod NanLaws
+pub mod NeighbourLaws
 pub mod PassLaws
 pub mod Passes
 pub mod Quadrature

@@ -1,11 +1,9 @@
 -- The slots after the passes of a step are the state that `rk4Of` defines.
 use mathlib.Core.Path.{_≡_, refl, sym, ap, _∙_}
 use mathlib.Core.List.{List, _++_}
-use Prim.Native.Nat.{ℕ, suc, _+_, _*_, _≤_}
-use native.Mathlib.Nat.{suc-mul}
+use Prim.Native.Nat.{ℕ, _*_, _≤_}
 use native.Mathlib.Omega.{arith}
 use lib.ListN.{length, take, drop}
-use lib.Seq.{drop-drop, take-add}
 use lib.Ieee.{Float, nan, binary64, add, sub, mul, div, ofInt}
 use Rattle.vectors.specs.Constants.{whole}
 use Rattle.vectors.specs.Grid.{pointsOf, spacingOf, pointOf}
@@ -17,6 +15,7 @@ use Rattle.physics.specs.Constraints.{half, radialGradientOf, constraint
 use Rattle.physics.specs.Equations.{Equations, equationsOf, boundedOf}
 use Rattle.physics.specs.State.{State, layOut}
 use Rattle.physics.specs.Rk4.{storedConstraints, stateOf, stageOf, weightedSumOf, rk4Of}
+use Rattle.physics.specs.NeighbourLaws.{one-more}
 use Rattle.physics.specs.Passes.{Room, Ready, ReadyEquations, gradients, grids}
 use Rattle.physics.specs.PassLaws.{renamed, ready-after}
 use Rattle.physics.specs.Slots.{Slots, slots, upd, Became}
@@ -144,13 +143,6 @@ step-is level time delta T S =
 -- ---- the eight slots one after another
 
 module _ (n : ℕ) (w : List Float) where
-  one-more : (k m : ℕ) → take (suc m * n) (drop (k * n) w) ≡ slots n w k ++ take (m * n) (drop (suc k * n) w)
-  unfolding slots part
-  one-more k m =
-      let e : suc m * n ≡ n + m * n = omega (arith, suc-mul m n) in
-      let f : suc k * n ≡ k * n + n = suc-mul k n in
-      rw (e, f, take-add n (m * n) (drop (k * n) w), drop-drop)
-
   pub slots-front : (time : Float) → take (8 * n) w ≡ layOut (stateOfSlots time (slots n w))
   unfolding layOut slots part
   slots-front time =
@@ -158,13 +150,13 @@ module _ (n : ℕ) (w : List Float) where
       let o : 1 * n ≡ n = omega arith in
       let s : take (8 * n) w ≡ take (8 * n) (drop (0 * n) w) = rw z in
       let l : take (1 * n) (drop (7 * n) w) ≡ slots n w 7 = ap (λ (j : ℕ). take j (drop (7 * n) w)) o in
-      s ∙ one-more 0 7
-      ∙ ap (λ (x : List Float). slots n w 0 ++ x) (one-more 1 6
-      ∙ ap (λ (x : List Float). slots n w 1 ++ x) (one-more 2 5
-      ∙ ap (λ (x : List Float). slots n w 2 ++ x) (one-more 3 4
-      ∙ ap (λ (x : List Float). slots n w 3 ++ x) (one-more 4 3
-      ∙ ap (λ (x : List Float). slots n w 4 ++ x) (one-more 5 2
-      ∙ ap (λ (x : List Float). slots n w 5 ++ x) (one-more 6 1
+      s ∙ one-more n w 0 7
+      ∙ ap (λ (x : List Float). slots n w 0 ++ x) (one-more n w 1 6
+      ∙ ap (λ (x : List Float). slots n w 1 ++ x) (one-more n w 2 5
+      ∙ ap (λ (x : List Float). slots n w 2 ++ x) (one-more n w 3 4
+      ∙ ap (λ (x : List Float). slots n w 3 ++ x) (one-more n w 4 3
+      ∙ ap (λ (x : List Float). slots n w 4 ++ x) (one-more n w 5 2
+      ∙ ap (λ (x : List Float). slots n w 5 ++ x) (one-more n w 6 1
       ∙ ap (λ (x : List Float). slots n w 6 ++ x) l))))))
 
 -- ---- the grid

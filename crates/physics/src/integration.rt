@@ -11,7 +11,7 @@ ghost use Rattle.physics.specs.Integral.{quadraticOver, simpsonOver, eig
 ghost use Rattle.physics.specs.Rk4.{rk4Of};
 ghost use Rattle.physics.specs.Slots.{slots, Became};
 ghost use Rattle.physics.specs.Passes.{Room, Target, grids};
-ghost use Rattle.physics.specs.StepPasses.{States, ReadyStep, loadsVariables, loadsConstraints, begins, doubles, firsts, forms, stages, doubledStages, ends, lasts, steps};
+ghost use Rattle.physics.specs.StepPasses.{States, ReadyStep, loadsVariables, loadsConstraints, begins, doubles, firsts, moves, forms, stages, doubledStages, ends, lasts, steps};
 ghost use Rattle.physics.specs.Stepped.{steppedNumber, steppedTime, timeAfter, roomToStep};
 ghost use Rattle.physics.specs.State.{stateIn};
 ghost use Rattle.physics.specs.WorkAfter.{WorkAfter};
@@ -103,11 +103,9 @@ fn load_variables(n: usize, state: &[f64], w: &mut [f64])
     requires { ⌜ States n (length (now state)) (length (now w)) ⌝ }
     ensures { λ _. ⌜ Became n (loadsVariables (slots n (now (state .entry)))) (now (w .entry)) (now (w .exit)) ⌝ }
 {
-    let field = 0 * n;
-    let momentum = 1 * n;
+    let variables = 0 * n;
     let end = 2 * n;
-    copy_vector(&state[field..momentum], field, w);
-    copy_vector(&state[momentum..end], momentum, w);
+    copy_vector(&state[variables..end], variables, w);
 }
 
 // Slots 5 to 7: the radial factor, the lapse and the char speed of the state.
@@ -115,13 +113,9 @@ fn load_constraints(n: usize, state: &[f64], w: &mut [f64])
     requires { ⌜ States n (length (now state)) (length (now w)) ⌝ }
     ensures { λ _. ⌜ Became n (loadsConstraints (slots n (now (state .entry)))) (now (w .entry)) (now (w .exit)) ⌝ }
 {
-    let radial_factor = 5 * n;
-    let lapse = 6 * n;
-    let char_speed = 7 * n;
+    let constraints = 5 * n;
     let end = 8 * n;
-    copy_vector(&state[radial_factor..lapse], radial_factor, w);
-    copy_vector(&state[lapse..char_speed], lapse, w);
-    copy_vector(&state[char_speed..end], char_speed, w);
+    copy_vector(&state[constraints..end], constraints, w);
 }
 
 // Slots 16 to 18: the rates in slots 13 to 15.
@@ -129,15 +123,9 @@ fn begin_sums(n: usize, w: &mut [f64])
     requires { ⌜ Room n (length (now w)) ⌝ }
     ensures { λ _. ⌜ Became n begins (now (w .entry)) (now (w .exit)) ⌝ }
 {
-    let dt_field = 13 * n;
-    let dt_momentum = 14 * n;
-    let dt_mass = 15 * n;
-    let field_sum = 16 * n;
-    let momentum_sum = 17 * n;
-    let mass_sum = 18 * n;
-    copy_within(dt_field, field_sum, n, w);
-    copy_within(dt_momentum, momentum_sum, n, w);
-    copy_within(dt_mass, mass_sum, n, w);
+    let rates = 13 * n;
+    let sums = 16 * n;
+    copy_within(rates, sums, 3 * n, w);
 }
 
 // Slots 16 to 18: twice the rates added.
@@ -145,15 +133,9 @@ fn add_doubled(n: usize, w: &mut [f64])
     requires { ⌜ Room n (length (now w)) ⌝ }
     ensures { λ _. ⌜ Became n (doubles n) (now (w .entry)) (now (w .exit)) ⌝ }
 {
-    let dt_field = 13 * n;
-    let dt_momentum = 14 * n;
-    let dt_mass = 15 * n;
-    let field_sum = 16 * n;
-    let momentum_sum = 17 * n;
-    let mass_sum = 18 * n;
-    add_scaled(2.0, dt_field, field_sum, n, w);
-    add_scaled(2.0, dt_momentum, momentum_sum, n, w);
-    add_scaled(2.0, dt_mass, mass_sum, n, w);
+    let rates = 13 * n;
+    let sums = 16 * n;
+    add_scaled(2.0, rates, sums, 3 * n, w);
 }
 
 // A stage whose rates count twice in the sums.
@@ -178,15 +160,20 @@ fn form_stage(level: u32, n: usize, c: f64, state: &[f64], w: &mut [f64])
     requires { ⌜ ReadyStep level n (length (now state)) (now w) ⌝ }
     ensures { λ _. ⌜ Became n (forms level n c (slots n (now (state .entry)))) (now (w .entry)) (now (w .exit)) ⌝ }
 {
-    let field = 0 * n;
-    let momentum = 1 * n;
-    let end = 2 * n;
-    let dt_field = 13 * n;
-    let dt_momentum = 14 * n;
-    advance(&state[field..momentum], c, dt_field, field, n, w);
-    advance(&state[momentum..end], c, dt_momentum, momentum, n, w);
+    move_variables(n, c, state, w);
     apply_bcs(n, w);
     compute_constraints(level, n, w);
+}
+
+// Slots 0 and 1: field and momentum of the state, moved c along the rates.
+fn move_variables(n: usize, c: f64, state: &[f64], w: &mut [f64])
+    requires { ⌜ States n (length (now state)) (length (now w)) ⌝ }
+    ensures { λ _. ⌜ Became n (moves n c (slots n (now (state .entry)))) (now (w .entry)) (now (w .exit)) ⌝ }
+{
+    let variables = 0 * n;
+    let end = 2 * n;
+    let rates = 13 * n;
+    advance(&state[variables..end], c, rates, variables, 2 * n, w);
 }
 
 // Slots 0 to 7: the state that is c along the sums, with the last rates added to them.
@@ -203,27 +190,11 @@ fn next_variables(n: usize, c: f64, state: &[f64], w: &mut [f64])
     requires { ⌜ States n (length (now state)) (length (now w)) ⌝ }
     ensures { λ _. ⌜ Became n (ends n c (slots n (now (state .entry)))) (now (w .entry)) (now (w .exit)) ⌝ }
 {
-    let field = 0 * n;
-    let momentum = 1 * n;
-    let mass = 2 * n;
+    let variables = 0 * n;
     let end = 3 * n;
-    let dt_field = 13 * n;
-    let dt_momentum = 14 * n;
-    let dt_mass = 15 * n;
-    let field_sum = 16 * n;
-    let momentum_sum = 17 * n;
-    let mass_sum = 18 * n;
-    advance_by_sum(&state[field..momentum], c, field_sum, dt_field, field, n, w);
-    advance_by_sum(
-        &state[momentum..mass],
-        c,
-        momentum_sum,
-        dt_momentum,
-        momentum,
-        n,
-        w,
-    );
-    advance_by_sum(&state[mass..end], c, mass_sum, dt_mass, mass, n, w);
+    let rates = 13 * n;
+    let sums = 16 * n;
+    advance_by_sum(&state[variables..end], c, sums, rates, variables, 3 * n, w);
 }
 
 fn quadratic_over(h: f64, v: &[f64]) -> f64

@@ -1,5 +1,4 @@
 -- `compute_radial_gradient` meets its contract.
-use mathlib.Core.Path.{_∙_}
 use native.Mathlib.Omega.{arith}
 use lib.ListN.{length-set}
 use Rattle.vectors.specs.Stencil.{diffOf, diffAt, diffLeft0, diffLeft1, diffRight1, diffRight0}

@@ -1,5 +1,4 @@
 -- `second_difference` meets its contract.
-use mathlib.Core.Path.{_∙_}
 use native.Mathlib.Omega.{arith}
 use lib.ListN.{length-set}
 use Rattle.vectors.specs.Stencil.{diff2Of, diff2At, diff2Left0, diff2Left1, diff2Right1, diff2Right0}

@@ -1,11 +1,15 @@
--- `add_doubled` meets its contract: three passes.
-use mathlib.Core.Path.{refl}
+-- `add_doubled` meets its contract.
+use mathlib.Core.Path.{refl, ap, _∙_}
+use mathlib.Core.List.{List}
+use Prim.Native.Nat.{_*_}
 use native.Mathlib.Omega.{arith}
-use lib.Ieee.{ofBits, ofInt}
+use lib.Ieee.{Float, ofBits, ofInt}
 use Rattle.vectors.specs.Constants.{whole}
-use Rattle.physics.specs.Vector.{advancedOf}
+use Rattle.vectors.specs.Memory.{put}
+use Rattle.vectors.specs.MemoryLaws.{apart-right}
+use Rattle.physics.specs.NeighbourLaws.{advanced-three, wrote-three}
+use Rattle.physics.specs.PassLaws.{renamed}
 use Rattle.physics.specs.VectorLaws.{length-advancedOf}
-use Rattle.physics.specs.Slots.{slots, slots-apart, wrote, both}
 use borrow.Author.Needs.{needs}
 use Rattle.physics.proofs.integration.add_doubled.Statement.{statement}
 use Rattle.physics.proofs.integration.add_doubled.Tie as tie
@@ -14,33 +18,19 @@ add-scaled-requires : tie.Need-add-scaled-requires
 add-scaled-requires c κs =
     let s = c .before .before in
     let pre = s .pre in
-    record { source = omega arith; target = omega arith; far = slots-apart (s .args .n) 16 13 refl }
-
-add-scaled-requires-2 : tie.Need-add-scaled-requires-2
-add-scaled-requires-2 c κs =
-    let s = c .before .before .before .before .before .before in
-    let pre = s .pre in
-    record { source = omega arith; target = omega arith; far = slots-apart (s .args .n) 17 14 refl }
-
-add-scaled-requires-3 : tie.Need-add-scaled-requires-3
-add-scaled-requires-3 c κs =
-    let s = c .before .before .before .before .before .before .before .before .before .before in
-    let pre = s .pre in
-    record { source = omega arith; target = omega arith; far = slots-apart (s .args .n) 18 15 refl }
+    let n = s .args .n in
+    record { source = omega arith; target = omega arith; far = apart-right (16 * n) (3 * n) (13 * n) (3 * n) (omega arith) }
 
 returns : tie.Need-returns
-unfolding slots ofBits ofInt
+unfolding ofBits ofInt
 returns c =
-    let third = c .before .before in
-    let second = third .before .before .before .before in
-    let first = second .before .before .before .before in
-    let s = first .before .before .before in
+    let added = c .before .before in
+    let s = added .before .before .before in
     let pre = s .pre in
     let n = s .args .n in
-    let field = wrote n 16 (λ S. advancedOf n (whole 2) (S 16) (S 13)) _ _ (length-advancedOf n _ _ _) (omega arith) (first .add-scaled .ensures) in
-    let momentum = wrote n 17 (λ S. advancedOf n (whole 2) (S 17) (S 14)) _ _ (length-advancedOf n _ _ _) (omega arith) (second .add-scaled2 .ensures) in
-    let mass = wrote n 18 (λ S. advancedOf n (whole 2) (S 18) (S 15)) _ _ (length-advancedOf n _ _ _) (omega arith) (third .add-scaled3 .ensures) in
-    both (both field momentum) mass
+    let w = s .args .w .now in
+    renamed refl (wrote-three n 16 _ _ _ w (length-advancedOf n _ _ _) (length-advancedOf n _ _ _) (length-advancedOf n _ _ _) (omega arith)
+    (added .add-scaled .ensures ∙ ap (λ (x : List Float). put (16 * n) x w) (advanced-three n (whole 2) w 16 w 13 (omega arith) (omega arith))))
 
 pub add-doubled-spec : {M : Type 1} → statement M
 add-doubled-spec =
@@ -49,11 +39,6 @@ add-doubled-spec =
     (λ c. search needs)
     (λ c. search needs)
     (λ c. search needs)
-    (λ c. search needs)
-    (λ c. search needs)
-    (λ c. search needs)
     add-scaled-requires
-    add-scaled-requires-2
-    add-scaled-requires-3
     (λ c. search needs)
     returns)

@@ -1,14 +1,13 @@
 -- `integrate` meets its contract.
-use mathlib.Core.Path.{_≡_, refl, sym, ap, _∙_}
-use Prim.Native.Nat.{_≤_, _-_, _+_, _*_, _%_}
+use mathlib.Core.Path.{refl, sym, ap, _∙_}
+use Prim.Native.Nat.{_*_}
 use native.Mathlib.Nat.{add-zero}
 use native.Mathlib.Omega.{arith}
-use lib.ListN.{length, length-set}
+use lib.ListN.{length-set}
 use lib.Ieee.{nan}
-use Rattle.vectors.specs.MemoryLaws.{Grown, grown-none, step, filled-none, filled-part, filled-own, filled-put, lent}
-use Rattle.physics.specs.Fills.{grown-pair}
+use Rattle.vectors.specs.MemoryLaws.{step, filled-none, filled-put}
 use Rattle.physics.specs.Integral.{integralAt, quadraticOver, simpsonOver}
-use Rattle.physics.specs.IntegralLaws.{integral-odd, integral-even, integral-zero, integral-one, integral-two, integral-tab}
+use Rattle.physics.specs.IntegralLaws.{integral-zero, integral-one, integral-two, integral-tab}
 use Rattle.physics.specs.Slots.{slots, lent-slot, length-slot}
 use borrow.Author.Needs.{needs}
 use Rattle.physics.proofs.integration.integrate.Statement.{statement}

@@ -1,10 +1,15 @@
--- `next_variables` meets its contract: three passes.
-use mathlib.Core.Path.{refl}
+-- `next_variables` meets its contract.
+use mathlib.Core.Path.{refl, ap, _∙_}
+use mathlib.Core.List.{List}
 use Prim.Native.Nat.{_*_}
 use native.Mathlib.Omega.{arith}
-use Rattle.physics.specs.Slots.{slots, slots-apart, lent-slot, wrote, both}
-use Rattle.physics.specs.StepPasses.{advancedBySum}
+use lib.Ieee.{Float}
+use Rattle.vectors.specs.Memory.{part, put}
+use Rattle.vectors.specs.MemoryLaws.{apart-left, lent}
+use Rattle.physics.specs.NeighbourLaws.{advanced-by-sum-three, wrote-three}
+use Rattle.physics.specs.PassLaws.{renamed}
 use Rattle.physics.specs.StepLaws.{length-advancedBySum}
+use Rattle.physics.specs.StepPasses.{advancedBySum}
 use borrow.Author.Needs.{needs}
 use Rattle.physics.proofs.integration.next_variables.Statement.{statement}
 use Rattle.physics.proofs.integration.next_variables.Tie as tie
@@ -14,37 +19,20 @@ advance-by-sum-requires c κs =
     let s = c .before .before .before .before in
     let pre = s .pre in
     let n = s .args .n in
-    (search needs, record { source = omega arith; other = omega arith; target = omega arith; far = slots-apart n 0 16 refl; far-other = slots-apart n 0 13 refl })
-
-advance-by-sum-requires-2 : tie.Need-advance-by-sum-requires-2
-advance-by-sum-requires-2 c κs =
-    let s = c .before .before .before .before .before .before .before .before .before in
-    let pre = s .pre in
-    let n = s .args .n in
-    (search needs, record { source = omega arith; other = omega arith; target = omega arith; far = slots-apart n 1 17 refl; far-other = slots-apart n 1 14 refl })
-
-advance-by-sum-requires-3 : tie.Need-advance-by-sum-requires-3
-advance-by-sum-requires-3 c κs =
-    let s = c .before .before .before .before .before .before .before .before .before .before .before .before .before .before in
-    let pre = s .pre in
-    let n = s .args .n in
-    (search needs, record { source = omega arith; other = omega arith; target = omega arith; far = slots-apart n 2 18 refl; far-other = slots-apart n 2 15 refl })
+    (search needs, record { source = omega arith; other = omega arith; target = omega arith; far = apart-left (0 * n) (3 * n) (16 * n) (3 * n) (omega arith); far-other = apart-left (0 * n) (3 * n) (13 * n) (3 * n) (omega arith) })
 
 returns : tie.Need-returns
-unfolding slots
 returns c =
-    let third = c .before .before in
-    let second = third .before .before .before .before .before in
-    let first = second .before .before .before .before .before in
-    let s = first .before .before .before .before .before in
+    let moved = c .before .before in
+    let s = moved .before .before .before .before .before in
     let pre = s .pre in
     let a = s .args in
     let n = a .n in
     let state = a .state .now in
-    let field = wrote n 0 (λ S. advancedBySum n (a .c) (slots n state 0) (S 16) (S 13)) _ _ (length-advancedBySum n _ _ _ _) (omega arith) (rw (lent-slot n 0 (1 * n) state (omega arith)) at (first .advance-by-sum .ensures)) in
-    let momentum = wrote n 1 (λ S. advancedBySum n (a .c) (slots n state 1) (S 17) (S 14)) _ _ (length-advancedBySum n _ _ _ _) (omega arith) (rw (lent-slot n 1 (2 * n) state (omega arith)) at (second .advance-by-sum2 .ensures)) in
-    let mass = wrote n 2 (λ S. advancedBySum n (a .c) (slots n state 2) (S 18) (S 15)) _ _ (length-advancedBySum n _ _ _ _) (omega arith) (rw (lent-slot n 2 (3 * n) state (omega arith)) at (third .advance-by-sum3 .ensures)) in
-    both (both field momentum) mass
+    let w = a .w .now in
+    let e = ap (λ (x : List Float). advancedBySum (3 * n) (a .c) x (part (16 * n) (3 * n) w) (part (13 * n) (3 * n) w)) (lent (0 * n) (3 * n) (3 * n) state (omega arith)) in
+    renamed refl (wrote-three n 0 _ _ _ w (length-advancedBySum n _ _ _ _) (length-advancedBySum n _ _ _ _) (length-advancedBySum n _ _ _ _) (omega arith)
+    (moved .advance-by-sum .ensures ∙ ap (λ (x : List Float). put (0 * n) x w) (e ∙ advanced-by-sum-three n (a .c) state 0 w 16 13 (omega arith) (omega arith) (omega arith))))
 
 pub next-variables-spec : {M : Type 1} → statement M
 next-variables-spec =
@@ -59,21 +47,6 @@ next-variables-spec =
     (λ c. search needs)
     (λ c. search needs)
     (λ c. search needs)
-    (λ c. search needs)
-    (λ c. search needs)
-    (λ c. search needs)
-    (λ c. search needs)
-    (λ c. search needs)
     advance-by-sum-requires
-    (λ c. search needs)
-    (λ c. search needs)
-    (λ c. search needs)
-    (λ c. search needs)
-    advance-by-sum-requires-2
-    (λ c. search needs)
-    (λ c. search needs)
-    (λ c. search needs)
-    (λ c. search needs)
-    advance-by-sum-requires-3
     (λ c. search needs)
     returns)

@@ -1,50 +1,24 @@
 // Carries out one order turn by turn and prints the lines of each turn.
-ghost use Prim.Native.Nat.{_≤_};
+use crate::least;
 use run::carry_out::Carried;
-use run::carry_out::Job;
-use run::carry_out::begin_order;
 use run::carry_out::go_on;
 
 // No order of the table has as many turns.
-const TURNS: u32 = 4096;
+const TURNS: u32 = 1024;
 
-pub fn carry_out(
-    input: &[u8],
-    state: &mut [f64],
-    work: &mut [f64],
-    frames: &mut [f64],
-    out: &mut [u8],
-) {
-    let first = started(input, state, work, frames, out);
-    let last = turns(first, input, state, work, frames, out);
-    ended(last);
-}
-
-fn started(
-    input: &[u8],
-    state: &mut [f64],
-    work: &mut [f64],
-    frames: &mut [f64],
-    out: &mut [u8],
-) -> Carried {
-    let c = begin_order(input, state, work, frames, out);
-    send(c, out);
-    c
-}
-
-fn turns(
+pub fn turns(
     first: Carried,
     input: &[u8],
     state: &mut [f64],
     work: &mut [f64],
     frames: &mut [f64],
     out: &mut [u8],
-) -> Carried {
+) {
     let mut now = first;
     for i in 0..TURNS {
+        send(now, out);
         now = turn(now, input, state, work, frames, out);
     }
-    now
 }
 
 // What follows; nothing after the last lines.
@@ -57,51 +31,21 @@ fn turn(
     out: &mut [u8],
 ) -> Carried {
     match now {
-        Carried::More(_, job) => gone_on(job, input, state, work, frames, out),
-        Carried::Last(n) => Carried::Last(n),
-        Carried::NoRoom => Carried::NoRoom,
+        Carried::More(_, job) => go_on(job, input, state, work, frames, out),
+        Carried::Last(_) => Carried::Last(0),
+        Carried::NoRoom => Carried::Last(0),
     }
 }
 
-fn gone_on(
-    job: Job,
-    input: &[u8],
-    state: &mut [f64],
-    work: &mut [f64],
-    frames: &mut [f64],
-    out: &mut [u8],
-) -> Carried {
-    let c = go_on(job, input, state, work, frames, out);
-    send(c, out);
-    c
-}
-
-fn send(c: Carried, out: &[u8]) {
-    match c {
-        Carried::NoRoom => {
-            io::write_all(1, b"no room\n");
-        }
-        Carried::Last(n) => first_bytes(n, out),
-        Carried::More(n, _) => first_bytes(n, out),
-    }
-}
-
-fn first_bytes(n: usize, out: &[u8]) {
-    let end = least(n, out.len());
+fn send(now: Carried, out: &[u8]) {
+    let end = least(end_of(now), out.len());
     io::write_all(1, &out[0..end]);
 }
 
-fn ended(c: Carried) {
-    if let Carried::More(_, _) = c {
-        io::write_all(1, b"not ended\n");
+fn end_of(now: Carried) -> usize {
+    match now {
+        Carried::More(n, _) => n,
+        Carried::Last(n) => n,
+        Carried::NoRoom => 0,
     }
-}
-
-pub fn least(x: usize, most: usize) -> usize
-    ensures { λ r. ⌜ r ≤ most ⌝ }
-{
-    if x < most {
-        return x;
-    }
-    most
 }

@@ -1,13 +1,13 @@
 // Carries out the orders of the table and prints what `oracle orders` prints for them.
+ghost use Prim.Native.Nat.{_≤_};
+
 mod carry;
 mod draft;
-mod lengths;
-mod patterns;
-mod refused;
-mod runs;
+mod sequences;
 mod table;
 
 use cases::digest::mixed;
+use run::carry_out::begin_order;
 
 fn main() {
     let mut input = [0u8; 4100];
@@ -19,47 +19,40 @@ fn main() {
 }
 
 fn all(input: &mut [u8], state: &mut [f64], work: &mut [f64], frames: &mut [f64], out: &mut [u8]) {
+    let mut row = 0;
     for k in 0..table::ORDERS {
-        order(k, input, state, work, frames, out);
+        row = table::row_of(k, row);
+        order(k, row, input, state, work, frames, out);
     }
 }
 
 fn order(
-    k: u32,
+    k: u64,
+    row: usize,
     input: &mut [u8],
     state: &mut [f64],
     work: &mut [f64],
     frames: &mut [f64],
     out: &mut [u8],
 ) {
-    let length = draft::write(table::draft_of(k), input);
-    answer(k, length, input, state, work, frames, out);
-}
-
-// The first `length` bytes are the order.
-fn answer(
-    k: u32,
-    length: usize,
-    input: &[u8],
-    state: &mut [f64],
-    work: &mut [f64],
-    frames: &mut [f64],
-    out: &mut [u8],
-) {
-    let end = carry::least(length, input.len());
+    let commands_end = draft::write(row, sequences::commands(k, row), input);
+    let end = least(draft::length(k, row, commands_end) as usize, input.len());
     heading(k, &input[0..end]);
-    carry::carry_out(&input[0..end], state, work, frames, out);
+    let first = begin_order(&input[0..end], state, work, frames, out);
+    carry::turns(first, &input[0..end], state, work, frames, out);
 }
 
 // The order's number, how many bytes it has and their digest.
-fn heading(k: u32, order: &[u8]) {
-    io::write_all(1, b"order ");
-    io::print_decimal(1, k as u64);
-    io::write_all(1, b" bytes ");
-    io::print_decimal(1, order.len() as u64);
-    io::write_all(1, b" ");
-    io::print_decimal(1, digest(order));
+fn heading(k: u64, order: &[u8]) {
+    number(b"order ", k);
+    number(b" bytes ", order.len() as u64);
+    number(b" ", digest(order));
     io::write_all(1, b"\n");
+}
+
+fn number(word: &[u8], n: u64) {
+    io::write_all(1, word);
+    io::print_decimal(1, n);
 }
 
 fn digest(bytes: &[u8]) -> u64 {
@@ -72,4 +65,13 @@ fn digest(bytes: &[u8]) -> u64 {
 
 fn with_byte(d: u64, b: u8) -> u64 {
     mixed(d, b as u64)
+}
+
+fn least(x: usize, most: usize) -> usize
+    ensures { λ r. ⌜ r ≤ most ⌝ }
+{
+    if x < most {
+        return x;
+    }
+    most
 }

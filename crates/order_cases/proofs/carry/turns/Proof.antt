@@ -7,12 +7,12 @@ use Rattle.order_cases.proofs.carry.turns.Statement.{statement}
 use Rattle.order_cases.proofs.carry.turns.Tie as tie
 
 abbrev Inv-loop : tie.InvT-loop
-Inv-loop input state₀ work₀ frames₀ out₀ now₀ i₀ state work frames out now i = (i ≤ 4096) × (length state ≡ length state₀) × (length work ≡ length work₀) × (length frames ≡ length frames₀) × (length out ≡ length out₀)
+Inv-loop input state₀ work₀ frames₀ out₀ now₀ i₀ state work frames out now i = (i ≤ 1024) × (length state ≡ length state₀) × (length work ≡ length work₀) × (length frames ≡ length frames₀) × (length out ≡ length out₀)
 
 abbrev μ-loop : tie.MeasureT-loop
-μ-loop input state₀ work₀ frames₀ out₀ now₀ i₀ state work frames out now i = 4096 - i
+μ-loop input state₀ work₀ frames₀ out₀ now₀ i₀ state work frames out now i = 1024 - i
 
 pub turns-spec : {M : Type 1} → statement M
 turns-spec =
     tie.close
-    (tie.spec Inv-loop μ-loop (λ c. search needs) (λ c κs. search needs) (λ c. search needs) (λ c. search needs) (λ c. search needs) (λ c. search needs) (λ c. search needs) (λ c. search needs) (λ c. search needs) (λ c. search needs))
+    (tie.spec Inv-loop μ-loop (λ c. search needs) (λ c κs. search needs) (λ c κs. search needs) (λ c. search needs) (λ c. search needs) (λ c. search needs) (λ c. search needs) (λ c. search needs) (λ c. search needs) (λ c. search needs) (λ c. search needs))

@@ -1,307 +1,170 @@
-// What begin answers, and what it leaves, as in oracle/run/begin.rs.
-use crate::lines;
+// What begin answers, as in oracle/run/begin.rs.
+use crate::floats::FOUR;
+use crate::floats::INFINITY;
+use crate::floats::LARGEST;
+use crate::floats::MINUS_INFINITY;
+use crate::floats::NAN;
+use crate::floats::ONE;
+use crate::floats::QUARTER;
+use crate::floats::TWENTY;
+use crate::floats::ZERO;
+use crate::jobs::Job;
+use crate::lines::bits;
+use crate::lines::lent;
+use crate::lines::number;
 use crate::memories::Lent;
-use crate::session::Session;
-use crate::session::begin_filled;
-use crate::settings::least_bits;
-use crate::settings::settings;
-use run::settings::Settings;
-use run::simulate::Answer;
-use std::num::wrapping_sub_u64;
-use vectors::bits::of_bits;
+use crate::session::REFUSED;
+use crate::session::Told;
+use vectors::bits::bits_of;
 
-pub fn all(state: &mut [f64], work: &mut [f64], frames: &mut [f64]) {
-    by_settings(state, work, frames);
-    by_memories(state, work, frames);
-}
+// What of a begin its line names.
+const LEVEL: u64 = 0;
 
-fn by_settings(state: &mut [f64], work: &mut [f64], frames: &mut [f64]) {
-    levels(state, work, frames);
-    by_output(state, work, frames);
-}
+const BOTH: u64 = 1;
 
-fn by_output(state: &mut [f64], work: &mut [f64], frames: &mut [f64]) {
-    by_interval(state, work, frames);
-    dx_levels(state, work, frames);
-}
+const INTERVAL: u64 = 2;
 
-fn by_interval(state: &mut [f64], work: &mut [f64], frames: &mut [f64]) {
-    least_intervals(state, work, frames);
-    intervals(state, work, frames);
-}
+const DX_LEVEL: u64 = 3;
 
-fn by_memories(state: &mut [f64], work: &mut [f64], frames: &mut [f64]) {
-    lengths(state, work, frames);
-    by_amplitude(state, work, frames);
-}
+const LENGTHS: u64 = 4;
 
-fn by_amplitude(state: &mut [f64], work: &mut [f64], frames: &mut [f64]) {
-    amplitudes(state, work, frames);
-    orders(state, work, frames);
-}
+const AMPLITUDE: u64 = 5;
 
-fn whole() -> Lent {
-    Lent {
-        state: 2064,
-        work: 10288,
-        frames: 8192,
-    }
-}
+const ORDER: u64 = 6;
 
-fn levels(state: &mut [f64], work: &mut [f64], frames: &mut [f64]) {
-    let table: [u32; 6] = [4, 17, 261, 0, 4294967295, 5];
-    for i in 0..6 {
-        level(table[i], state, work, frames);
-    }
-}
-
-fn level(n: u32, state: &mut [f64], work: &mut [f64], frames: &mut [f64]) {
-    io::write_all(1, b"begin level ");
-    io::print_decimal(1, n as u64);
-    line(
-        settings(20.0, n, 1.0, 1.0, 5, false),
-        whole(),
-        state,
-        work,
-        frames,
-    );
-}
-
-// The float below the least interval of a level, and the least.
-fn least_intervals(state: &mut [f64], work: &mut [f64], frames: &mut [f64]) {
-    for level in 5..17 {
-        two_intervals(level, least_bits(level), state, work, frames);
-    }
-}
-
-fn two_intervals(level: u32, b: u64, state: &mut [f64], work: &mut [f64], frames: &mut [f64]) {
-    least_interval(level, wrapping_sub_u64(b, 1), state, work, frames);
-    least_interval(level, b, state, work, frames);
-}
-
-fn least_interval(level: u32, b: u64, state: &mut [f64], work: &mut [f64], frames: &mut [f64]) {
-    io::write_all(1, b"begin level ");
-    io::print_decimal(1, level as u64);
-    interval(level, b, state, work, frames);
-}
-
-fn intervals(state: &mut [f64], work: &mut [f64], frames: &mut [f64]) {
-    let table: [u64; 8] = [
-        0x0000000000000000,
-        0x8000000000000000,
-        0xBFF0000000000000,
-        0xFFF0000000000000,
-        0x0000000000000001,
-        0x7FF8000000000000,
-        0x7FF0000000000000,
-        0x7FEFFFFFFFFFFFFF,
-    ];
-    for i in 0..8 {
-        interval_alone(table[i], state, work, frames);
-    }
-}
-
-fn interval_alone(b: u64, state: &mut [f64], work: &mut [f64], frames: &mut [f64]) {
-    io::write_all(1, b"begin");
-    interval(5, b, state, work, frames);
-}
-
-fn interval(level: u32, b: u64, state: &mut [f64], work: &mut [f64], frames: &mut [f64]) {
-    io::write_all(1, b" interval ");
-    io::print_hex(1, b, 16);
-    line(
-        settings(20.0, level, 1.0, of_bits(b), 5, false),
-        whole(),
-        state,
-        work,
-        frames,
-    );
-}
-
-fn dx_levels(state: &mut [f64], work: &mut [f64], frames: &mut [f64]) {
-    let table: [u32; 4] = [6, 4294967295, 5, 0];
-    for i in 0..4 {
-        dx_level(table[i], state, work, frames);
-    }
-}
-
-fn dx_level(n: u32, state: &mut [f64], work: &mut [f64], frames: &mut [f64]) {
-    io::write_all(1, b"begin dx ");
-    io::print_decimal(1, n as u64);
-    line(
-        settings(20.0, 5, 1.0, 1.0, n, false),
-        whole(),
-        state,
-        work,
-        frames,
-    );
-}
-
-fn lengths(state: &mut [f64], work: &mut [f64], frames: &mut [f64]) {
-    for i in 0..9 {
-        both_lengths(lent_of(i), state, work, frames);
-    }
-}
-
-fn both_lengths(lengths: Lent, state: &mut [f64], work: &mut [f64], frames: &mut [f64]) {
-    length(lengths, false, state, work, frames);
-    length(lengths, true, state, work, frames);
-}
+// Amplitude, level, max time, interval, dx level, skip; the row of the lengths; what the line names.
+#[rattlefmt::skip]
+const BEGINS: [u64; 736] = [
+    TWENTY, 4, ONE, ONE, 5, 0, 8, LEVEL,
+    TWENTY, 17, ONE, ONE, 5, 0, 8, LEVEL,
+    TWENTY, 261, ONE, ONE, 5, 0, 8, LEVEL,
+    TWENTY, 0, ONE, ONE, 5, 0, 8, LEVEL,
+    TWENTY, 4294967295, ONE, ONE, 5, 0, 8, LEVEL,
+    TWENTY, 5, ONE, ONE, 5, 0, 8, LEVEL,
+    // the float below the least interval of a level, and the least
+    TWENTY, 5, ONE, 0x3F9F07C1F07C1F07, 5, 0, 8, BOTH,   TWENTY, 5, ONE, 0x3F9F07C1F07C1F08, 5, 0, 8, BOTH,
+    TWENTY, 6, ONE, 0x3F8F81F81F81F81F, 5, 0, 8, BOTH,   TWENTY, 6, ONE, 0x3F8F81F81F81F820, 5, 0, 8, BOTH,
+    TWENTY, 7, ONE, 0x3F7FC07F01FC07EF, 5, 0, 8, BOTH,   TWENTY, 7, ONE, 0x3F7FC07F01FC07F0, 5, 0, 8, BOTH,
+    TWENTY, 8, ONE, 0x3F6FE01FE01FE01F, 5, 0, 8, BOTH,   TWENTY, 8, ONE, 0x3F6FE01FE01FE020, 5, 0, 8, BOTH,
+    TWENTY, 9, ONE, 0x3F5FF007FC01FEFF, 5, 0, 8, BOTH,   TWENTY, 9, ONE, 0x3F5FF007FC01FF00, 5, 0, 8, BOTH,
+    TWENTY, 10, ONE, 0x3F4FF801FF801FF7, 5, 0, 8, BOTH,   TWENTY, 10, ONE, 0x3F4FF801FF801FF8, 5, 0, 8, BOTH,
+    TWENTY, 11, ONE, 0x3F3FFC007FF001FF, 5, 0, 8, BOTH,   TWENTY, 11, ONE, 0x3F3FFC007FF00200, 5, 0, 8, BOTH,
+    TWENTY, 12, ONE, 0x3F2FFE001FFE001F, 5, 0, 8, BOTH,   TWENTY, 12, ONE, 0x3F2FFE001FFE0020, 5, 0, 8, BOTH,
+    TWENTY, 13, ONE, 0x3F1FFF0007FFC001, 5, 0, 8, BOTH,   TWENTY, 13, ONE, 0x3F1FFF0007FFC002, 5, 0, 8, BOTH,
+    TWENTY, 14, ONE, 0x3F0FFF8001FFF7FF, 5, 0, 8, BOTH,   TWENTY, 14, ONE, 0x3F0FFF8001FFF800, 5, 0, 8, BOTH,
+    TWENTY, 15, ONE, 0x3EFFFFC0007FFEFF, 5, 0, 8, BOTH,   TWENTY, 15, ONE, 0x3EFFFFC0007FFF00, 5, 0, 8, BOTH,
+    TWENTY, 16, ONE, 0x3EEFFFE0001FFFDF, 5, 0, 8, BOTH,   TWENTY, 16, ONE, 0x3EEFFFE0001FFFE0, 5, 0, 8, BOTH,
+    // zeros, -1, -infinity, the least float, NaN, infinity, the largest
+    TWENTY, 5, ONE, ZERO, 5, 0, 8, INTERVAL,
+    TWENTY, 5, ONE, 0x8000000000000000, 5, 0, 8, INTERVAL,
+    TWENTY, 5, ONE, 0xBFF0000000000000, 5, 0, 8, INTERVAL,
+    TWENTY, 5, ONE, MINUS_INFINITY, 5, 0, 8, INTERVAL,
+    TWENTY, 5, ONE, 0x0000000000000001, 5, 0, 8, INTERVAL,
+    TWENTY, 5, ONE, NAN, 5, 0, 8, INTERVAL,
+    TWENTY, 5, ONE, INFINITY, 5, 0, 8, INTERVAL,
+    TWENTY, 5, ONE, LARGEST, 5, 0, 8, INTERVAL,
+    // dx levels
+    TWENTY, 5, ONE, ONE, 6, 0, 8, DX_LEVEL,
+    TWENTY, 5, ONE, ONE, 4294967295, 0, 8, DX_LEVEL,
+    TWENTY, 5, ONE, ONE, 5, 0, 8, DX_LEVEL,
+    TWENTY, 5, ONE, ONE, 0, 0, 8, DX_LEVEL,
+    // lengths, not skipped and skipped
+    TWENTY, 5, ONE, ONE, 5, 0, 0, LENGTHS,   TWENTY, 5, ONE, ONE, 5, 1, 0, LENGTHS,
+    TWENTY, 5, ONE, ONE, 5, 0, 1, LENGTHS,   TWENTY, 5, ONE, ONE, 5, 1, 1, LENGTHS,
+    TWENTY, 5, ONE, ONE, 5, 0, 2, LENGTHS,   TWENTY, 5, ONE, ONE, 5, 1, 2, LENGTHS,
+    TWENTY, 5, ONE, ONE, 5, 0, 3, LENGTHS,   TWENTY, 5, ONE, ONE, 5, 1, 3, LENGTHS,
+    TWENTY, 5, ONE, ONE, 5, 0, 4, LENGTHS,   TWENTY, 5, ONE, ONE, 5, 1, 4, LENGTHS,
+    TWENTY, 5, ONE, ONE, 5, 0, 5, LENGTHS,   TWENTY, 5, ONE, ONE, 5, 1, 5, LENGTHS,
+    TWENTY, 5, ONE, ONE, 5, 0, 6, LENGTHS,   TWENTY, 5, ONE, ONE, 5, 1, 6, LENGTHS,
+    TWENTY, 5, ONE, ONE, 5, 0, 7, LENGTHS,   TWENTY, 5, ONE, ONE, 5, 1, 7, LENGTHS,
+    TWENTY, 5, ONE, ONE, 5, 0, 8, LENGTHS,   TWENTY, 5, ONE, ONE, 5, 1, 8, LENGTHS,
+    // NaN, infinities, the largest float, and at each level the largest amplitude whose initial state has no NaN, and the next
+    NAN, 5, ONE, ONE, 0, 0, 8, AMPLITUDE,   NAN, 5, ONE, ONE, 0, 1, 8, AMPLITUDE,
+    INFINITY, 5, ONE, ONE, 0, 0, 8, AMPLITUDE,   INFINITY, 5, ONE, ONE, 0, 1, 8, AMPLITUDE,
+    MINUS_INFINITY, 5, ONE, ONE, 0, 0, 8, AMPLITUDE,   MINUS_INFINITY, 5, ONE, ONE, 0, 1, 8, AMPLITUDE,
+    LARGEST, 5, ONE, ONE, 0, 0, 8, AMPLITUDE,   LARGEST, 5, ONE, ONE, 0, 1, 8, AMPLITUDE,
+    0x4084E273E543992E, 5, ONE, ONE, 0, 0, 8, AMPLITUDE,   0x4084E273E543992E, 5, ONE, ONE, 0, 1, 8, AMPLITUDE,
+    0x4084E273E543992F, 5, ONE, ONE, 0, 0, 8, AMPLITUDE,   0x4084E273E543992F, 5, ONE, ONE, 0, 1, 8, AMPLITUDE,
+    0x4085004B631175F5, 6, ONE, ONE, 0, 0, 8, AMPLITUDE,   0x4085004B631175F5, 6, ONE, ONE, 0, 1, 8, AMPLITUDE,
+    0x4085004B631175F6, 6, ONE, ONE, 0, 0, 8, AMPLITUDE,   0x4085004B631175F6, 6, ONE, ONE, 0, 1, 8, AMPLITUDE,
+    0x4085016DCD084AF5, 7, ONE, ONE, 0, 0, 8, AMPLITUDE,   0x4085016DCD084AF5, 7, ONE, ONE, 0, 1, 8, AMPLITUDE,
+    0x4085016DCD084AF6, 7, ONE, ONE, 0, 0, 8, AMPLITUDE,   0x4085016DCD084AF6, 7, ONE, ONE, 0, 1, 8, AMPLITUDE,
+    0x4085017E590A6FC9, 8, ONE, ONE, 0, 0, 8, AMPLITUDE,   0x4085017E590A6FC9, 8, ONE, ONE, 0, 1, 8, AMPLITUDE,
+    0x4085017E590A6FCA, 8, ONE, ONE, 0, 0, 8, AMPLITUDE,   0x4085017E590A6FCA, 8, ONE, ONE, 0, 1, 8, AMPLITUDE,
+    // all faults at once, then one fewer at a time
+    NAN, 4, ONE, ZERO, 6, 0, 9, ORDER,
+    NAN, 5, ONE, ZERO, 6, 0, 9, ORDER,
+    NAN, 5, ONE, ONE, 6, 0, 9, ORDER,
+    NAN, 5, ONE, ONE, 5, 0, 9, ORDER,
+    NAN, 5, ONE, ONE, 5, 0, 3, ORDER,
+    NAN, 5, ONE, ONE, 5, 0, 0, ORDER,
+    TWENTY, 5, ONE, ONE, 5, 0, 0, ORDER,
+    // the run whose record and state are forged
+    TWENTY, 5, FOUR, QUARTER, 5, 0, 8, ORDER,
+];
 
 // At level 5 a state has 264 numbers, work 1,320 and a frame of dx level 5 has 299.
-fn lent_of(i: u32) -> Lent {
-    match i {
-        0 => part(264, 1320, 299),
-        1 => part(263, 1320, 299),
-        2 => part(264, 1319, 299),
-        3 => part(264, 1320, 298),
-        4 => part(0, 1320, 299),
-        5 => part(264, 0, 299),
-        6 => part(264, 1320, 0),
-        7 => part(263, 1319, 0),
-        _ => whole(),
-    }
+#[rattlefmt::skip]
+const LENT: [u64; 30] = [
+    264, 1320, 299,
+    263, 1320, 299,
+    264, 1319, 299,
+    264, 1320, 298,
+    0, 1320, 299,
+    264, 0, 299,
+    264, 1320, 0,
+    263, 1319, 0,
+    2064, 10288, 8192,
+    264, 1319, 298,
+];
+
+// The rows follow those of the cases.
+pub fn cell(row: usize, column: usize) -> u64 {
+    let table = BEGINS;
+    table[(row % 4096 + 34) % 92 * 8 + column % 8]
 }
 
-fn length(lengths: Lent, skip: bool, state: &mut [f64], work: &mut [f64], frames: &mut [f64]) {
-    io::write_all(1, b"begin");
-    lines::lent(lengths);
-    skipped(skip);
-    line(
-        settings(20.0, 5, 1.0, 1.0, 5, skip),
-        lengths,
-        state,
-        work,
-        frames,
-    );
-}
-
-fn skipped(skip: bool) {
-    io::write_all(1, b" skip");
-    lines::flag(skip);
-}
-
-fn amplitudes(state: &mut [f64], work: &mut [f64], frames: &mut [f64]) {
-    let table: [u64; 12] = [
-        0x7FF8000000000000,
-        0x7FF0000000000000,
-        0xFFF0000000000000,
-        0x7FEFFFFFFFFFFFFF,
-        0x4084E273E543992E,
-        0x4084E273E543992F,
-        0x4085004B631175F5,
-        0x4085004B631175F6,
-        0x4085016DCD084AF5,
-        0x4085016DCD084AF6,
-        0x4085017E590A6FC9,
-        0x4085017E590A6FCA,
-    ];
-    for i in 0..12 {
-        both_amplitudes(level_of(i), table[i], state, work, frames);
-    }
-}
-
-fn both_amplitudes(level: u32, b: u64, state: &mut [f64], work: &mut [f64], frames: &mut [f64]) {
-    amplitude(level, b, false, state, work, frames);
-    amplitude(level, b, true, state, work, frames);
-}
-
-// The level of an amplitude above.
-fn level_of(i: usize) -> u32 {
-    match i {
-        6 | 7 => 6,
-        8 | 9 => 7,
-        10 | 11 => 8,
-        _ => 5,
-    }
-}
-
-fn amplitude(
-    level: u32,
-    b: u64,
-    skip: bool,
-    state: &mut [f64],
-    work: &mut [f64],
-    frames: &mut [f64],
-) {
-    io::write_all(1, b"begin level ");
-    io::print_decimal(1, level as u64);
-    io::write_all(1, b" amplitude ");
-    io::print_hex(1, b, 16);
-    skipped(skip);
-    line(
-        settings(of_bits(b), level, 1.0, 1.0, 0, skip),
-        whole(),
-        state,
-        work,
-        frames,
-    );
-}
-
-// All faults at once, then one fewer at a time.
-fn orders(state: &mut [f64], work: &mut [f64], frames: &mut [f64]) {
-    for k in 0..7 {
-        order(k, state, work, frames);
-    }
-}
-
-fn order(k: u32, state: &mut [f64], work: &mut [f64], frames: &mut [f64]) {
-    io::write_all(1, b"begin order ");
-    io::print_decimal(1, k as u64);
-    line(faulty(k), faulty_lent(k), state, work, frames);
-}
-
-fn faulty(k: u32) -> Settings {
-    let nan = 0.0 / 0.0;
-    match k {
-        0 => settings(nan, 4, 1.0, 0.0, 6, false),
-        1 => settings(nan, 5, 1.0, 0.0, 6, false),
-        2 => settings(nan, 5, 1.0, 1.0, 6, false),
-        6 => settings(20.0, 5, 1.0, 1.0, 5, false),
-        _ => settings(nan, 5, 1.0, 1.0, 5, false),
-    }
-}
-
-fn faulty_lent(k: u32) -> Lent {
-    match k {
-        4 => part(264, 1320, 298),
-        5 | 6 => part(264, 1320, 299),
-        _ => part(264, 1319, 298),
-    }
-}
-
-fn part(state: usize, work: usize, frames: usize) -> Lent {
+pub fn lengths_of(row: usize) -> Lent {
     Lent {
-        state: state,
-        work: work,
-        frames: frames,
+        state: length(row, 0),
+        work: length(row, 1),
+        frames: length(row, 2),
     }
 }
 
-// A begin over memories filled anew: its answer, and what they then hold.
-fn line(s: Settings, lengths: Lent, state: &mut [f64], work: &mut [f64], frames: &mut [f64]) {
-    let z = begin_filled(s, lengths, state, work, frames);
-    let used = answer_of(z);
-    lines::memories(s.level, used, state, work, frames);
+fn length(row: usize, column: usize) -> u64 {
+    let table = LENT;
+    table[row % 10 * 3 + column % 3]
 }
 
-// Prints the answer; whether the call used work memory.
-fn answer_of(z: Session) -> bool {
-    let answer = z.answer;
-    match answer {
-        Answer::Refused(number) => refused(number),
-        _ => accepted(z.frames),
+pub fn head(job: Job) {
+    let s = job.settings;
+    io::write_all(1, b"begin");
+    match cell(job.row, 7) {
+        LEVEL => number(b" level ", s.level as u64),
+        BOTH => {
+            number(b" level ", s.level as u64);
+            bits(b" interval ", bits_of(s.interval));
+        }
+        INTERVAL => bits(b" interval ", bits_of(s.interval)),
+        DX_LEVEL => number(b" dx ", s.dx_level as u64),
+        LENGTHS => {
+            lent(job.lent);
+            number(b" skip ", s.skip as u64);
+        }
+        AMPLITUDE => {
+            number(b" level ", s.level as u64);
+            bits(b" amplitude ", bits_of(s.amplitude));
+            number(b" skip ", s.skip as u64);
+        }
+        _ => number(b" order ", (job.n % 7) as u64),
     }
 }
 
-fn refused(number: u8) -> bool {
-    io::write_all(1, b" refused ");
-    io::print_decimal(1, number as u64);
-    number == 13
-}
-
-fn accepted(count: u64) -> bool {
-    io::write_all(1, b" accepted ");
-    io::print_decimal(1, count);
-    true
+pub fn answer(t: Told) {
+    if t.word == REFUSED {
+        number(b" refused ", t.number);
+        return;
+    }
+    number(b" accepted ", t.count as u64);
 }

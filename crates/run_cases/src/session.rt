@@ -1,86 +1,111 @@
-// A run in calls: begin and advance on parts of the memories, and the frames joined call by call.
-ghost use Prim.Native.Nat.{_≤_, _-_};
+// A job's calls: a begin and advances on parts of the memories, and the frames joined call by call.
+ghost use Prim.Native.Nat.{_≤_};
+use crate::jobs::CALLS;
+use crate::jobs::Call;
+use crate::jobs::Job;
+use crate::jobs::call_of;
+use crate::lines::report;
 use crate::memories::Lent;
-use crate::memories::fill;
-use crate::memories::frame_size;
+use crate::memories::frames_of;
 use crate::memories::least;
+use crate::memories::put;
+use crate::memories::refill;
+use cases::digest::mixed;
 use cases::digest::with;
 use run::settings::Record;
 use run::settings::Settings;
-use run::simulate::Advanced;
 use run::simulate::Answer;
 use run::simulate::Begun;
+use std::num::wrapping_add_u32;
 use std::num::wrapping_add_u64;
+use std::num::wrapping_add_usize;
+use std::num::wrapping_sub_u32;
+use vectors::bits::bits_of;
 
-// The record and the last answer; how many frames were joined and their digest; how many calls were made, full, refused.
+// No job makes so many calls.
+const MOST: u64 = 1000;
+
+// The words of the answers.
+pub const REFUSED: u32 = 0;
+
+pub const FULL: u32 = 1;
+
+pub const COLLAPSE: u32 = 2;
+
+pub const BROKEN: u32 = 3;
+
+pub const TIMEOUT: u32 = 4;
+
+pub const SPENT: u32 = 5;
+
+// What a call answers: its word, the refusal's number, the attempts made or the bits of the mass, and the frames written.
+pub struct Told {
+    pub record: Record,
+    pub word: u32,
+    pub number: u64,
+    pub count: usize,
+}
+
+// After a call: what it was lent and told; how many frames were joined and their digest; how many calls were full or
+// refused; the turn that comes, with the rest of its budget; the attempts left and the generator.
 pub struct Session {
     pub record: Record,
-    pub answer: Answer,
+    pub told: Told,
+    pub budget: u32,
+    pub lent: Lent,
     pub frames: u64,
     pub digest: u64,
-    pub calls: u64,
     pub full: u64,
     pub refused: u64,
+    pub turn: u32,
+    pub rest: u32,
+    pub left: u32,
+    pub seed: u64,
 }
 
-pub fn begin(
-    s: Settings,
-    lent: Lent,
-    state: &mut [f64],
-    work: &mut [f64],
-    frames: &mut [f64],
-) -> Session {
-    let begun = begin_in(s, lent, state, work, frames);
-    match begun {
-        Begun::Accepted(record, count) => started(
-            record,
-            Answer::Spent(count),
-            count,
-            joined(1, frames, count, frame_size(s.dx_level)),
-        ),
-        Begun::Refused(number) => started(no_record(s), Answer::Refused(number), 0, 1),
+pub fn carry_out(job: Job, state: &mut [f64], work: &mut [f64], frames: &mut [f64]) {
+    refill(job.filled, 7, state);
+    refill(job.filled, 8, frames);
+    let mut z = fresh(job);
+    let mut calls = 0;
+    let mut end = MOST;
+    while calls < end {
+        z = step(job, z, calls, state, work, frames);
+        end = end_of(job.turns, z.turn);
+        calls += 1;
     }
 }
 
-// The same over memories filled anew.
-pub fn begin_filled(
-    s: Settings,
-    lent: Lent,
-    state: &mut [f64],
-    work: &mut [f64],
-    frames: &mut [f64],
-) -> Session {
-    fill(state, work, frames);
-    begin(s, lent, state, work, frames)
+// The calls of a job: as many as can be until its turns are over.
+fn end_of(turns: u32, turn: u32) -> u64
+    ensures { λ r. ⌜ r ≤ 1000 ⌝ }
+{
+    if turn == turns {
+        return 0;
+    }
+    MOST
 }
 
-fn begin_in(
-    s: Settings,
-    lent: Lent,
-    state: &mut [f64],
-    work: &mut [f64],
-    frames: &mut [f64],
-) -> Begun {
-    let a = least(lent.state, state.len());
-    let b = least(lent.work, work.len());
-    let c = least(lent.frames, frames.len());
-    run::simulate::begin(s, &mut state[0..a], &mut work[0..b], &mut frames[0..c])
-}
-
-fn started(record: Record, answer: Answer, count: usize, digest: u64) -> Session {
+fn fresh(job: Job) -> Session {
+    let record = started(job.settings);
+    let lent = job.lent;
     Session {
         record: record,
-        answer: answer,
-        frames: count as u64,
-        digest: digest,
-        calls: 0,
+        told: said(record, SPENT, 0, 0),
+        budget: 0,
+        lent: lent,
+        frames: 0,
+        digest: 1,
         full: 0,
         refused: 0,
+        turn: 0,
+        rest: 0,
+        left: job.attempts,
+        seed: seed_of(job.kind, job.row as u64),
     }
 }
 
-// What stands where a refused begin gave none.
-fn no_record(s: Settings) -> Record {
+fn started(s: Settings) -> Record {
     Record {
         settings: s,
         time: 0.0,
@@ -89,138 +114,157 @@ fn no_record(s: Settings) -> Record {
     }
 }
 
-pub fn advance(
+fn seed_of(kind: u32, k: u64) -> u64 {
+    if kind == CALLS {
+        return mixed(37, k);
+    }
+    mixed(mixed(31, k), kind as u64)
+}
+
+fn step(
+    job: Job,
     z: Session,
-    budget: u32,
-    lent: Lent,
+    calls: u64,
     state: &mut [f64],
     work: &mut [f64],
     frames: &mut [f64],
 ) -> Session {
-    let record = z.record;
-    let s = record.settings;
-    let advanced = advance_in(record, budget, lent, state, work, frames);
-    let answer = advanced.answer;
-    let next = advanced.record;
-    let count = frames_told(answer);
-    Session {
-        record: next,
-        answer: answer,
-        frames: wrapping_add_u64(z.frames, count as u64),
-        digest: joined(z.digest, frames, count, frame_size(s.dx_level)),
-        calls: wrapping_add_u64(z.calls, 1),
-        full: wrapping_add_u64(z.full, is_full(answer)),
-        refused: wrapping_add_u64(z.refused, is_refused(answer)),
-    }
+    let c = call_of(job, z);
+    let t = made(job.filled, z.turn, c, state, work, frames);
+    let next = after_call(job.kind, z, c, t, joined(z.digest, t, frames));
+    report(job, next, calls, state, work, frames);
+    next
 }
 
-fn advance_in(
-    record: Record,
-    budget: u32,
-    lent: Lent,
+// A call after what is to stand in the memories before it.
+fn made(
+    filled: u64,
+    turn: u32,
+    c: Call,
     state: &mut [f64],
     work: &mut [f64],
     frames: &mut [f64],
-) -> Advanced {
-    let a = least(lent.state, state.len());
-    let b = least(lent.work, work.len());
-    let c = least(lent.frames, frames.len());
-    run::simulate::advance(
+) -> Told {
+    refill(filled, 9, work);
+    put(c.at, c.value, state);
+    called(turn, c, state, work, frames)
+}
+
+fn called(turn: u32, c: Call, state: &mut [f64], work: &mut [f64], frames: &mut [f64]) -> Told {
+    let l = c.lent;
+    let record = c.record;
+    let a = least(l.state, state.len());
+    let b = least(l.work, work.len());
+    let e = least(l.frames, frames.len());
+    if turn == 0 {
+        return begun(
+            record,
+            run::simulate::begin(
+                record.settings,
+                &mut state[0..a],
+                &mut work[0..b],
+                &mut frames[0..e],
+            ),
+        );
+    }
+    let advanced = run::simulate::advance(
         record,
         &mut state[0..a],
         &mut work[0..b],
-        &mut frames[0..c],
-        budget,
-    )
+        &mut frames[0..e],
+        c.budget,
+    );
+    let answer = advanced.answer;
+    answered(advanced.record, answer)
 }
 
-// A call, and after full calls with the rest of the budget.
-pub fn recalled(
-    z: Session,
-    budget: u32,
-    lent: Lent,
-    state: &mut [f64],
-    work: &mut [f64],
-    frames: &mut [f64],
-) -> Session {
-    let mut now = advance(z, budget, lent, state, work, frames);
-    let first = now.answer;
-    let mut left = rest(budget, first);
-    while 0 < left {
-        now = advance(now, left, lent, state, work, frames);
-        let answer = now.answer;
-        left = rest(left, answer);
+fn begun(record: Record, begun: Begun) -> Told {
+    match begun {
+        Begun::Refused(number) => said(record, REFUSED, number as u64, 0),
+        Begun::Accepted(next, count) => said(next, SPENT, 0, count),
     }
-    now
 }
 
-// What full leaves of a budget: less than there was. Any other answer leaves nothing.
-fn rest(budget: u32, answer: Answer) -> u32
-    ensures { λ r. ⌜ r ≤ budget - 1 ⌝ }
-{
-    let made = attempts_made(answer);
-    if made < 1 {
+fn answered(record: Record, answer: Answer) -> Told {
+    match answer {
+        Answer::Refused(number) => said(record, REFUSED, number as u64, 0),
+        Answer::Full(attempts, count) => said(record, FULL, attempts as u64, count),
+        Answer::Collapse(mass, count) => said(record, COLLAPSE, bits_of(mass), count),
+        Answer::Broken(count) => said(record, BROKEN, 0, count),
+        Answer::Timeout(count) => said(record, TIMEOUT, 0, count),
+        Answer::Spent(count) => said(record, SPENT, 0, count),
+    }
+}
+
+fn said(record: Record, word: u32, number: u64, count: usize) -> Told {
+    Told {
+        record: record,
+        word: word,
+        number: number,
+        count: count,
+    }
+}
+
+fn after_call(kind: u32, z: Session, c: Call, t: Told, digest: u64) -> Session {
+    let rest = rest_of(kind, c.budget, t);
+    let record = t.record;
+    let lent = c.lent;
+    Session {
+        record: record,
+        told: t,
+        budget: c.budget,
+        lent: lent,
+        frames: wrapping_add_u64(z.frames, t.count as u64),
+        digest: digest,
+        full: wrapping_add_u64(z.full, is(t.word, FULL)),
+        refused: wrapping_add_u64(z.refused, is(t.word, REFUSED)),
+        turn: turn_after(z.turn, rest),
+        rest: rest,
+        left: c.left,
+        seed: c.seed,
+    }
+}
+
+// What full leaves of a budget of a list.
+fn rest_of(kind: u32, budget: u32, t: Told) -> u32 {
+    if kind == CALLS {
         return 0;
     }
-    if budget < made {
-        return 0;
+    if t.word == FULL {
+        return wrapping_sub_u32(budget, crate::settings::low(t.number));
     }
-    budget - made
+    0
 }
 
-fn attempts_made(answer: Answer) -> u32 {
-    match answer {
-        Answer::Full(made, _) => made,
-        _ => 0,
+fn turn_after(turn: u32, rest: u32) -> u32 {
+    if 0 < rest {
+        return turn;
     }
+    wrapping_add_u32(turn, 1)
 }
 
-fn is_full(answer: Answer) -> u64 {
-    match answer {
-        Answer::Full(_, _) => 1,
-        _ => 0,
+fn is(word: u32, other: u32) -> u64 {
+    if word == other {
+        return 1;
     }
+    0
 }
 
-pub fn is_refused(answer: Answer) -> u64 {
-    match answer {
-        Answer::Refused(_) => 1,
-        _ => 0,
-    }
+// The digest d with the frames that a call wrote.
+fn joined(d: u64, t: Told, frames: &[f64]) -> u64 {
+    let record = t.record;
+    let s = record.settings;
+    let size = frames_of(1, s.dx_level) as usize;
+    let end = least(product(t.count, size) as u64, frames.len());
+    folded(d, &frames[0..end])
 }
 
-pub fn frames_told(answer: Answer) -> usize {
-    match answer {
-        Answer::Refused(_) => 0,
-        Answer::Full(_, count) => count,
-        Answer::Collapse(_, count) => count,
-        Answer::Broken(count) => count,
-        Answer::Timeout(count) => count,
-        Answer::Spent(count) => count,
-    }
-}
-
-// The digest d with the first `count` frames of a frame memory.
-fn joined(d: u64, frames: &[f64], count: usize, size: usize) -> u64 {
-    let mut all = d;
-    let mut at = 0;
+fn product(count: usize, size: usize) -> usize {
+    let mut all = 0;
     for i in 0..count {
-        let end = end_of(at, size, frames.len());
-        all = folded(all, &frames[at..end]);
-        at = end;
+        all = wrapping_add_usize(all, size);
     }
     all
-}
-
-// size numbers on, at most at the end.
-fn end_of(at: usize, size: usize, most: usize) -> usize
-    requires { ⌜ at ≤ most ⌝ }
-    ensures { λ r. ⌜ (at ≤ r) × (r ≤ most) ⌝ }
-{
-    if size <= most - at {
-        return at + size;
-    }
-    most
 }
 
 // The digest d with these numbers.

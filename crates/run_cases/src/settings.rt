@@ -1,165 +1,155 @@
 // The settings of the runs and how many attempts each gets, as in oracle/run/settings.rs.
+use crate::begin;
+use crate::floats::FIFTY;
+use crate::floats::FIVE;
+use crate::floats::FORTY;
+use crate::floats::FOUR;
+use crate::floats::HALF;
+use crate::floats::HUNDREDTH;
+use crate::floats::INFINITY;
+use crate::floats::LARGEST;
+use crate::floats::MINUS_INFINITY;
+use crate::floats::NAN;
+use crate::floats::ONE;
+use crate::floats::QUARTER;
+use crate::floats::SIX;
+use crate::floats::SIXTY;
+use crate::floats::TEN;
+use crate::floats::TENTH;
+use crate::floats::THIRTY;
+use crate::floats::THIRTY_FIVE;
+use crate::floats::TWENTY;
+use crate::floats::TWO;
+use crate::floats::ZERO;
 use cases::arguments::after;
 use cases::arguments::argument;
 use cases::digest::mixed;
 use run::settings::Settings;
 use vectors::bits::of_bits;
 
+// Amplitude, level, max time, interval, dx level, skip; attempts.
+#[rattlefmt::skip]
+const WRITTEN: [u64; 238] = [
+    // amplitude 0, max time 0: timeout after the first step, not before it
+    ZERO, 5, ZERO, ONE, 5, 1, 1,
+    ZERO, 5, ZERO, ONE, 5, 0, 5,
+    // amplitude -0; the interval is the spacing
+    0x8000000000000000, 5, ONE, 0x3FA0000000000000, 5, 0, 40,
+    // disperses
+    TWENTY, 5, FOUR, QUARTER, 3, 0, 160,
+    // neighbouring amplitudes: timeout, collapse
+    0x4041C6FE5EF70CA2, 5, FOUR, ONE, 5, 1, 200,
+    0x4041C6FE5EF70CA3, 5, FOUR, ONE, 5, 1, 200,
+    // the least interval; twice the base step
+    TWENTY, 5, TWO, 0x3F9F07C1F07C1F08, 0, 0, 120,
+    THIRTY, 5, ONE, 0x3FAE666666666666, 1, 0, 60,
+    // collapse: max time that time, the float below it, 0.47, which the step before passes
+    FORTY, 5, 0x3FE0266666666665, ONE, 4, 0, 30,
+    FORTY, 5, 0x3FE0266666666664, ONE, 4, 0, 30,
+    FORTY, 5, 0x3FDE147AE147AE14, ONE, 4, 0, 30,
+    // collapse at once, the second with the largest amplitude whose initial state has no NaN
+    SIXTY, 5, FOUR, ONE, 5, 0, 3,
+    0x4084E273E543992E, 5, FOUR, ONE, 5, 0, 3,
+    // interval NaN, not skipped and skipped; interval infinity, max time NaN; max time -infinity
+    TEN, 5, FOUR, NAN, 5, 0, 2,
+    TEN, 5, FOUR, NAN, 5, 1, 50,
+    TEN, 5, NAN, INFINITY, 2, 0, 60,
+    TEN, 5, MINUS_INFINITY, 0x3FA0000000000000, 5, 0, 4,
+    // max time the first step's time, and the float below it
+    FIVE, 5, 0x3F9E666666666666, ONE, 5, 1, 4,
+    FIVE, 5, 0x3F9E666666666665, ONE, 5, 1, 4,
+    // amplitude -20, max time infinity; a subnormal amplitude, interval 0.3; the largest interval, no attempts
+    0xC034000000000000, 5, INFINITY, TENTH, 2, 0, 100,
+    0x00001268D0D0D0D0, 5, ONE, 0x3FD3333333333333, 5, 0, 20,
+    TEN, 5, FOUR, LARGEST, 5, 0, 0,
+    // level 6: late collapse; collapse with the least interval; slow steps near a black hole
+    THIRTY, 6, SIX, ONE, 5, 1, 200,
+    THIRTY_FIVE, 6, SIX, 0x3F8F81F81F81F820, 6, 0, 120,
+    FIFTY, 6, HALF, 0x3FA999999999999A, 0, 0, 300,
+    // level 7: neighbouring amplitudes, timeout and collapse; the least interval; wide and narrow intervals
+    0x40398CB0A7F663FC, 7, FOUR, ONE, 7, 1, 600,
+    0x40398CB0A7F663FD, 7, FOUR, ONE, 7, 1, 600,
+    THIRTY_FIVE, 7, FOUR, 0x3F7FC07F01FC07F0, 7, 0, 300,
+    TEN, 7, ONE, HALF, 3, 0, 140,
+    TEN, 7, ONE, HUNDREDTH, 6, 0, 30,
+    // level 8
+    TWENTY, 8, FOUR, 0x3F6FE01FE01FE020, 8, 0, 30,
+    THIRTY_FIVE, 8, FOUR, ONE, 8, 1, 100,
+    0x4074500000000000, 8, FOUR, ONE, 0, 0, 2,
+    TWENTY, 8, 0x3FC999999999999A, TENTH, 4, 0, 80,
+];
+
+// The least intervals that the levels 5 to 7 accept, as the oracle finds them.
+const LEAST: [u64; 3] = [0x3F9F07C1F07C1F08, 0x3F8F81F81F81F820, 0x3F7FC07F01FC07F0];
+
 pub struct Case {
     pub settings: Settings,
     pub attempts: u32,
 }
 
-// How many are written out; then come those by the generator.
-const WRITTEN: u32 = 34;
-
-pub const CASES: u32 = 58;
-
-pub fn case_of(k: u32) -> Case {
-    if k < 12 {
-        return first(k);
+// The cases that are written out, those by the generator, and the rows of begins.
+pub fn case_of(row: usize) -> Case {
+    if row < 34 {
+        return written(row);
     }
-    if k < 22 {
-        return second(k);
+    if row < 58 {
+        return drawn((row - 34) as u64);
     }
-    if k < WRITTEN {
-        return third(k);
-    }
-    drawn(k - WRITTEN)
+    written(row)
 }
 
-// Level 5.
-fn first(k: u32) -> Case {
-    match k {
-        0 => of(0.0, 5, 0.0, 1.0, 5, true, 1),
-        1 => of(0.0, 5, 0.0, 1.0, 5, false, 5),
-        2 => of(-0.0, 5, 1.0, 0.03125, 5, false, 40),
-        3 => of(20.0, 5, 4.0, 0.25, 3, false, 160),
-        4 => of(of_bits(0x4041C6FE5EF70CA2), 5, 4.0, 1.0, 5, true, 200),
-        5 => of(of_bits(0x4041C6FE5EF70CA3), 5, 4.0, 1.0, 5, true, 200),
-        6 => of(20.0, 5, 2.0, least_interval(5), 0, false, 120),
-        7 => of(30.0, 5, 1.0, 0.059375, 1, false, 60),
-        8 => of(40.0, 5, of_bits(0x3FE0266666666665), 1.0, 4, false, 30),
-        9 => of(40.0, 5, of_bits(0x3FE0266666666664), 1.0, 4, false, 30),
-        10 => of(40.0, 5, 0.47, 1.0, 4, false, 30),
-        _ => of(60.0, 5, 4.0, 1.0, 5, false, 3),
-    }
-}
-
-// Level 5 with NaN, infinities and the largest float.
-fn second(k: u32) -> Case {
-    let nan = 0.0 / 0.0;
-    let infinity = 1.0 / 0.0;
-    match k {
-        12 => of(of_bits(0x4084E273E543992E), 5, 4.0, 1.0, 5, false, 3),
-        13 => of(10.0, 5, 4.0, nan, 5, false, 2),
-        14 => of(10.0, 5, 4.0, nan, 5, true, 50),
-        15 => of(10.0, 5, nan, infinity, 2, false, 60),
-        16 => of(10.0, 5, -infinity, 0.03125, 5, false, 4),
-        17 => of(5.0, 5, 0.0296875, 1.0, 5, true, 4),
-        18 => of(5.0, 5, of_bits(0x3F9E666666666665), 1.0, 5, true, 4),
-        19 => of(-20.0, 5, infinity, 0.1, 2, false, 100),
-        20 => of(of_bits(0x00001268D0D0D0D0), 5, 1.0, 0.3, 5, false, 20),
-        _ => of(10.0, 5, 4.0, of_bits(0x7FEFFFFFFFFFFFFF), 5, false, 0),
-    }
-}
-
-// Levels 6 to 8.
-fn third(k: u32) -> Case {
-    match k {
-        22 => of(30.0, 6, 6.0, 1.0, 5, true, 200),
-        23 => of(35.0, 6, 6.0, least_interval(6), 6, false, 120),
-        24 => of(50.0, 6, 0.5, 0.05, 0, false, 300),
-        25 => of(of_bits(0x40398CB0A7F663FC), 7, 4.0, 1.0, 7, true, 600),
-        26 => of(of_bits(0x40398CB0A7F663FD), 7, 4.0, 1.0, 7, true, 600),
-        27 => of(35.0, 7, 4.0, least_interval(7), 7, false, 300),
-        28 => of(10.0, 7, 1.0, 0.5, 3, false, 140),
-        29 => of(10.0, 7, 1.0, 0.01, 6, false, 30),
-        30 => of(20.0, 8, 4.0, least_interval(8), 8, false, 30),
-        31 => of(35.0, 8, 4.0, 1.0, 8, true, 100),
-        32 => of(325.0, 8, 4.0, 1.0, 0, false, 2),
-        _ => of(20.0, 8, 0.2, 0.1, 4, false, 80),
-    }
-}
-
-fn of(
-    amplitude: f64,
-    level: u32,
-    max_time: f64,
-    interval: f64,
-    dx_level: u32,
-    skip: bool,
-    attempts: u32,
-) -> Case {
+fn written(row: usize) -> Case {
     Case {
-        settings: settings(amplitude, level, max_time, interval, dx_level, skip),
-        attempts: attempts,
+        settings: Settings {
+            amplitude: of_bits(cell(row, 0)),
+            level: low(cell(row, 1)),
+            max_time: of_bits(cell(row, 2)),
+            interval: of_bits(cell(row, 3)),
+            dx_level: low(cell(row, 4)),
+            skip: cell(row, 5) == 1,
+        },
+        attempts: low(cell(row, 6)),
     }
 }
 
-pub fn settings(
-    amplitude: f64,
-    level: u32,
-    max_time: f64,
-    interval: f64,
-    dx_level: u32,
-    skip: bool,
-) -> Settings {
-    Settings {
-        amplitude: amplitude,
-        level: level,
-        max_time: max_time,
-        interval: interval,
-        dx_level: dx_level,
-        skip: skip,
+fn cell(row: usize, column: usize) -> u64 {
+    if row < 34 {
+        let table = WRITTEN;
+        return table[row * 7 + column % 7];
     }
+    begin::cell(row, column)
 }
 
-// The least interval that a level accepts, as the oracle finds it.
-pub fn least_interval(level: u32) -> f64 {
-    of_bits(least_bits(level))
-}
-
-pub fn least_bits(level: u32) -> u64 {
-    match level {
-        5 => 0x3F9F07C1F07C1F08,
-        6 => 0x3F8F81F81F81F820,
-        7 => 0x3F7FC07F01FC07F0,
-        8 => 0x3F6FE01FE01FE020,
-        9 => 0x3F5FF007FC01FF00,
-        10 => 0x3F4FF801FF801FF8,
-        11 => 0x3F3FFC007FF00200,
-        12 => 0x3F2FFE001FFE0020,
-        13 => 0x3F1FFF0007FFC002,
-        14 => 0x3F0FFF8001FFF800,
-        15 => 0x3EFFFFC0007FFF00,
-        _ => 0x3EEFFFE0001FFFE0,
-    }
+pub fn low(x: u64) -> u32 {
+    (x % 4294967296) as u32
 }
 
 // A whole number below 2^32 from the generator in state s.
 pub fn draw(s: u64) -> u32 {
-    (mixed(s, 1) / 256 % 4294967296) as u32
+    low(mixed(s, 1) / 256)
 }
 
-// A number from -1 up to 1.
+// A number from 0 up to 2.
 fn unit(s: u64) -> f64 {
-    argument(5, s)
+    1.0 + argument(5, s)
 }
 
-fn drawn(k: u32) -> Case {
-    let a = mixed(29, k as u64);
+fn drawn(k: u64) -> Case {
+    let a = mixed(29, k);
     let b = after(a);
     let c = after(b);
     let d = draw(after(c));
-    let level = 5 + d % 3;
-    of(
-        30.0 * (1.0 + unit(a)),
-        level,
-        1.0 + unit(b),
-        least_interval(level) * (1.0 + 7.5 * (1.0 + unit(c))),
-        d / 8 % (level + 1),
-        d / 64 % 4 == 0,
-        d / 256 % 120,
-    )
+    let least = LEAST;
+    let which = d % 3;
+    Case {
+        settings: Settings {
+            amplitude: 30.0 * unit(a),
+            level: 5 + which,
+            max_time: unit(b),
+            interval: of_bits(least[which as usize]) * (1.0 + 7.5 * unit(c)),
+            dx_level: d / 8 % (6 + which),
+            skip: d / 64 % 4 == 0,
+        },
+        attempts: d / 256 % 120,
+    }
 }

@@ -1,0 +1,42 @@
+// Floats by their bits, as the tables of settings have them.
+pub const ZERO: u64 = 0x0000000000000000;
+
+pub const HUNDREDTH: u64 = 0x3F847AE147AE147B;
+
+pub const TENTH: u64 = 0x3FB999999999999A;
+
+pub const QUARTER: u64 = 0x3FD0000000000000;
+
+pub const HALF: u64 = 0x3FE0000000000000;
+
+pub const ONE: u64 = 0x3FF0000000000000;
+
+pub const TWO: u64 = 0x4000000000000000;
+
+pub const FOUR: u64 = 0x4010000000000000;
+
+pub const FIVE: u64 = 0x4014000000000000;
+
+pub const SIX: u64 = 0x4018000000000000;
+
+pub const TEN: u64 = 0x4024000000000000;
+
+pub const TWENTY: u64 = 0x4034000000000000;
+
+pub const THIRTY: u64 = 0x403E000000000000;
+
+pub const THIRTY_FIVE: u64 = 0x4041800000000000;
+
+pub const FORTY: u64 = 0x4044000000000000;
+
+pub const FIFTY: u64 = 0x4049000000000000;
+
+pub const SIXTY: u64 = 0x404E000000000000;
+
+pub const INFINITY: u64 = 0x7FF0000000000000;
+
+pub const MINUS_INFINITY: u64 = 0xFFF0000000000000;
+
+pub const LARGEST: u64 = 0x7FEFFFFFFFFFFFFF;
+
+pub const NAN: u64 = 0x7FF8000000000000;

@@ -15,7 +15,8 @@ off : (a b n i : ℕ) → apart a n b n ≡ true → i < n → (a + i < b) ⊎ (
 off a b n i e h = elim (apart-or a n b n e) [ inl l ↦ inl (omega arith) | inr l ↦ inr (omega arith) ]
 
 module _ {A : Type 0} where
-  fill-set : (b i : ℕ) (g : ℕ → A) (xs : List A) (k : ℕ) (v : A) → (k < b) ⊎ (b + i ≤ k) → set (fill b i g xs) k v ≡ fill b i g (set xs k v)
+  -- a number stored past what is filled
+  pub fill-set : (b i : ℕ) (g : ℕ → A) (xs : List A) (k : ℕ) (v : A) → (k < b) ⊎ (b + i ≤ k) → set (fill b i g xs) k v ≡ fill b i g (set xs k v)
   unfolding fill
   fill-set b zero g xs k v h = refl
   fill-set b (suc i) g xs k v h =

@@ -12,6 +12,7 @@ ghost use Rattle.physics.specs.Slots.{slots, Became};
 ghost use Rattle.physics.specs.Vector.{at};
 ghost use Rattle.physics.specs.Passes.{Room, Ready, radialVal, speedVal, gradients, integrands, normals, lapses, radials, radialFactors, energies, constraints, fullConstraints};
 use crate::integration::integrate;
+use crate::slots::store_ends;
 use vectors::exp::exp_all;
 use vectors::field_vector::reciprocal;
 use vectors::grid::delta;
@@ -48,11 +49,8 @@ pub(crate) fn compute_radial_gradient(h: f64, n: usize, w: &mut [f64])
     let left1 = row5(DIFF_LEFT1, v, 0) / d;
     let right1 = row5(DIFF_RIGHT1, v, n - 5) / d;
     let right0 = row5(DIFF_RIGHT0, v, n - 5) / d;
-    w[to] = left0;
-    w[to + 1] = left1;
+    store_ends(to, n, left0, left1, right1, right0, w);
     radial_gradient_inner(h, n, w);
-    w[to + (n - 2)] = right1;
-    w[to + (n - 1)] = right0;
 }
 
 // The same but for the two points at each end.

@@ -12,6 +12,7 @@ ghost use Rattle.physics.specs.Equations.{fieldRateAt, momentumRateAt, o
 ghost use Rattle.physics.specs.Slots.{slots, Became};
 ghost use Rattle.physics.specs.Vector.{at};
 ghost use Rattle.physics.specs.Passes.{Room, Inside, ReadyEquations, Run, HalfRun, halfVal, halfOn, halves, seconds, dampingVal, dampings, fieldRates, momentumRateIn, momentumRates, massRates, rates, derivatives, bounds};
+use crate::slots::store_ends;
 use vectors::constants::DISSIPATION_FACTOR;
 use vectors::grid::delta;
 use vectors::rows::DIFF2_EDGE0;
@@ -113,11 +114,8 @@ fn second_difference(h: f64, n: usize, w: &mut [f64])
     let left1 = row6(DIFF2_EDGE1, v, 0) / d;
     let right1 = row6_descending(DIFF2_EDGE1, v, n - 6) / d;
     let right0 = row6_descending(DIFF2_EDGE0, v, n - 6) / d;
-    w[to] = left0;
-    w[to + 1] = left1;
+    store_ends(to, n, left0, left1, right1, right0, w);
     second_difference_inner(h, n, w);
-    w[to + (n - 2)] = right1;
-    w[to + (n - 1)] = right0;
 }
 
 // The same but for the two points at each end.

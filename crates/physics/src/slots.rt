@@ -6,6 +6,7 @@ ghost use lib.ListN.{length};
 ghost use Rattle.vectors.specs.Dissipation.{radialCorrectionOf};
 ghost use Rattle.vectors.specs.Memory.{part, put};
 ghost use Rattle.physics.specs.Vector.{advancedOf};
+ghost use Rattle.physics.specs.DifferenceLaws.{endsSet};
 ghost use Rattle.physics.specs.Slots.{Became};
 ghost use Rattle.physics.specs.Passes.{Room, Inside, grids};
 ghost use Rattle.physics.specs.StepPasses.{TwoInside, advancedBySum};
@@ -85,6 +86,25 @@ pub(crate) fn add_scaled(c: f64, from: usize, to: usize, n: usize, w: &mut [f64]
         w[to + i] = w[to + i] + c * w[from + i];
         i += 1;
     }
+}
+
+// Of the n numbers from to on, the two at each end.
+pub(crate) fn store_ends(
+    to: usize,
+    n: usize,
+    left0: f64,
+    left1: f64,
+    right1: f64,
+    right0: f64,
+    w: &mut [f64],
+)
+    requires { ⌜ (4 ≤ n) × (to + n ≤ length (now w)) ⌝ }
+    ensures { λ _. ⌜ now (w .exit) ≡ endsSet to n left0 left1 right1 right0 (now (w .entry)) ⌝ }
+{
+    w[to + (n - 2)] = right1;
+    w[to + (n - 1)] = right0;
+    w[to] = left0;
+    w[to + 1] = left1;
 }
 
 fn radial_correction(r: f64) -> f64

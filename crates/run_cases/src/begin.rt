@@ -137,7 +137,12 @@ fn length(row: usize, column: usize) -> u64 {
     table[row % 10 * 3 + column % 3]
 }
 
-pub fn head(job: Job) {
+pub fn line(job: Job, t: Told) {
+    head(job);
+    answer(t);
+}
+
+fn head(job: Job) {
     let s = job.settings;
     io::write_all(1, b"begin");
     match cell(job.row, 7) {
@@ -161,10 +166,10 @@ pub fn head(job: Job) {
     }
 }
 
-pub fn answer(t: Told) {
+fn answer(t: Told) {
     if t.word == REFUSED {
         number(b" refused ", t.number);
-        return;
+    } else {
+        number(b" accepted ", t.count as u64);
     }
-    number(b" accepted ", t.count as u64);
 }

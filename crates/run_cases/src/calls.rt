@@ -24,7 +24,8 @@ const DRAWN: [u64; 24] = [
 
 // Sixteen drawn calls, then three at the limit of 14.
 pub fn drawn_call(job: Job, z: Session) -> Call {
-    let record = z.record;
+    let t = z.told;
+    let record = t.record;
     if 16 < z.turn {
         return call_with(z, limit(z.turn, record.steps), job.lent);
     }

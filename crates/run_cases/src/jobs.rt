@@ -144,10 +144,14 @@ fn lent_of(kind: u32, c: Case) -> Lent {
         return lengths_of(c.attempts as usize);
     }
     let more = rule(kind, 1);
-    if s.skip {
-        return lent_to(s, more, more, rule(kind, 4), rule(kind, 5));
-    }
-    lent_to(s, more, more, rule(kind, 2), rule(kind, 3))
+    let skipped = s.skip as usize % 2 * 2;
+    lent_to(
+        s,
+        more,
+        more,
+        rule(kind, 2 + skipped),
+        rule(kind, 3 + skipped),
+    )
 }
 
 pub fn call_of(job: Job, z: Session) -> Call {
@@ -163,7 +167,8 @@ pub fn call_of(job: Job, z: Session) -> Call {
 }
 
 pub fn call_with(z: Session, budget: u32, lent: Lent) -> Call {
-    let record = z.record;
+    let t = z.told;
+    let record = t.record;
     Call {
         record: record,
         budget: budget,

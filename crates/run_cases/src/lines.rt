@@ -1,6 +1,6 @@
 // The line of a run, of a begin and of a single call.
 use crate::begin;
-use crate::forged;
+use crate::forged::cell;
 use crate::jobs::BEGIN;
 use crate::jobs::CALLS;
 use crate::jobs::Job;
@@ -18,13 +18,17 @@ use crate::session::Told;
 use crate::session::folded;
 use cases::digest::digest;
 use cases::digest::with;
-use run::settings::Record;
 use vectors::bits::bits_of;
 
 // The word and n.
 pub fn number(word: &[u8], n: u64) {
     io::write_all(1, word);
     io::print_decimal(1, n);
+}
+
+fn pair(word: &[u8], m: u64, n: u64) {
+    number(word, m);
+    number(b" ", n);
 }
 
 // The word and 16 digits.
@@ -34,90 +38,109 @@ pub fn bits(word: &[u8], b: u64) {
 }
 
 pub fn lent(l: Lent) {
-    number(b" lent ", l.state);
-    number(b" ", l.work);
+    pair(b" lent ", l.state, l.work);
     number(b" ", l.frames);
 }
 
-// The line of each single call, and of any other job after its last.
+// The line of each single call, and of any other job after its last call.
 pub fn report(job: Job, z: Session, calls: u64, state: &[f64], work: &[f64], frames: &[f64]) {
+    if is_silent(job, z) {
+        return;
+    }
     if job.kind < CALLS {
-        if z.turn == job.turns {
-            run_line(job, z, calls, state);
-        }
+        run_line(job, z, calls, state_digest(z.told, state));
         return;
     }
-    if job.kind == CALLS {
-        call_head(job, z);
-        memories(z, state, work, frames);
-        return;
-    }
-    if z.turn == job.turns {
-        last_head(job, z);
-        memories(z, state, work, frames);
-    }
+    call_line(job, z);
+    memories(kept_from(z.told), state, work, frames);
 }
 
-// Outcome, steps, time and mass; the digest of the state; the joined frames and their digest.
-fn run_line(job: Job, z: Session, calls: u64, state: &[f64]) {
-    let record = z.record;
+fn is_silent(job: Job, z: Session) -> bool {
+    if job.kind == CALLS {
+        return false;
+    }
+    z.turn != job.turns
+}
+
+// The digest of the time and of the state's numbers.
+fn state_digest(t: Told, state: &[f64]) -> u64 {
+    let record = t.record;
     let s = record.settings;
-    let t = z.told;
+    let end = least(state_size(s.level), state.len());
+    folded(with(1, record.time), &state[0..end])
+}
+
+fn run_line(job: Job, z: Session, calls: u64, digest: u64) {
     number(b"case ", job.row as u64);
     if job.kind == WHOLE {
-        number(b" whole ", record.steps as u64);
+        whole(z.told);
     } else {
-        number(b" list ", job.kind as u64);
-        number(b" calls ", calls);
-        number(b" full ", z.full);
-        number(b" refused ", z.refused);
-        word(t.word);
-        number(b" ", record.steps as u64);
+        list(job.kind, calls, z, digest);
     }
-    bits(b" ", bits_of(record.time));
-    mass(t);
-    if job.kind < WHOLE {
-        let end = least(state_size(s.level), state.len());
-        number(b" state ", folded(with(1, record.time), &state[0..end]));
-    }
-    number(b" frames ", z.frames);
-    number(b" ", z.digest);
+    pair(b" frames ", z.frames, z.digest);
     io::write_all(1, b"\n");
 }
 
-fn call_head(job: Job, z: Session) {
-    number(b"case ", job.row as u64);
+// Steps, time and mass.
+fn whole(t: Told) {
+    let record = t.record;
+    number(b" whole ", record.steps as u64);
+    bits(b" ", bits_of(record.time));
+    mass(t);
+}
+
+// The calls; outcome, steps, time and mass; the digest of the state.
+fn list(kind: u32, calls: u64, z: Session, digest: u64) {
+    let t = z.told;
+    let record = t.record;
+    number(b" list ", kind as u64);
+    number(b" calls ", calls);
+    number(b" full ", z.full);
+    number(b" refused ", z.refused);
+    word(t.word);
+    number(b" ", record.steps as u64);
+    bits(b" ", bits_of(record.time));
+    mass(t);
+    number(b" state ", digest);
+}
+
+fn call_line(job: Job, z: Session) {
+    let kind = job.kind;
+    match kind {
+        CALLS => single_line(job.row, z),
+        BEGIN => begin::line(job, z.told),
+        _ => forged_line(job, z.told),
+    }
+}
+
+fn single_line(row: usize, z: Session) {
+    number(b"case ", row as u64);
     if z.turn == 1 {
         number(b" begin ", z.frames);
-        return;
+    } else {
+        advance(z.budget, z.lent, z.told);
     }
-    number(b" advance ", z.budget as u64);
-    lent(z.lent);
-    reply(z.told);
-    after(z.record);
 }
 
-fn last_head(job: Job, z: Session) {
-    if job.kind == BEGIN {
-        begin::head(job);
-        begin::answer(z.told);
-        return;
-    }
-    forged_head(job);
-    reply(z.told);
-    after(z.record);
+fn advance(budget: u32, l: Lent, t: Told) {
+    number(b" advance ", budget as u64);
+    lent(l);
+    answer(t);
 }
 
-fn forged_head(job: Job) {
-    if job.kind == STATE {
-        number(b"forged state ", forged::cell(job.n, 0));
-        number(b" ", forged::cell(job.n, 1));
-        bits(b" ", forged::cell(job.n, 2));
-        return;
+fn forged_line(job: Job, t: Told) {
+    forged(job.kind, cell(job.n, 0), cell(job.n, 1), cell(job.n, 2));
+    answer(t);
+}
+
+fn forged(kind: u32, first: u64, second: u64, third: u64) {
+    if kind == STATE {
+        pair(b"forged state ", first, second);
+        bits(b" ", third);
+    } else {
+        pair(b"forged record ", first, second);
+        number(b" advance ", third);
     }
-    number(b"forged record ", forged::cell(job.n, 0));
-    number(b" ", forged::cell(job.n, 1));
-    number(b" advance ", forged::cell(job.n, 2));
 }
 
 fn word(w: u32) {
@@ -151,40 +174,41 @@ fn mass(t: Told) {
     io::write_all(1, b" none");
 }
 
-// A refusal's number; full with attempts and frames; or the outcome with mass and frames.
-fn reply(t: Told) {
+// The answer, and the record after the call.
+fn answer(t: Told) {
+    let record = t.record;
     word(t.word);
-    if t.word == REFUSED {
-        number(b" ", t.number);
-        return;
-    }
-    if t.word == FULL {
-        number(b" ", t.number);
-    } else {
-        mass(t);
-    }
-    number(b" ", t.count as u64);
+    numbers(t);
+    number(b" record ", record.steps as u64);
+    bits(b" ", bits_of(record.time));
+    number(b" ", record.broken as u64);
 }
 
-fn after(r: Record) {
-    number(b" record ", r.steps as u64);
-    bits(b" ", bits_of(r.time));
-    number(b" ", r.broken as u64);
+// A refusal's number; full with attempts and frames; or the outcome with mass and frames.
+fn numbers(t: Told) {
+    let word = t.word;
+    match word {
+        REFUSED => number(b" ", t.number),
+        FULL => pair(b" ", t.number, t.count as u64),
+        _ => {
+            mass(t);
+            number(b" ", t.count as u64);
+        }
+    }
 }
 
-// Digests of state memory, of frame memory and of what stays in work memory, which is all of it if the call used none.
-fn memories(z: Session, state: &[f64], work: &[f64], frames: &[f64]) {
+// Digests of state memory, of frame memory and of what stays in work memory from a number on.
+fn memories(from: u64, state: &[f64], work: &[f64], frames: &[f64]) {
     let end = work.len();
-    let from = least(kept_from(z), end);
-    number(b" memories ", digest(state));
-    number(b" ", digest(frames));
-    number(b" ", digest(&work[from..end]));
+    let start = least(from, end);
+    pair(b" memories ", digest(state), digest(frames));
+    number(b" ", digest(&work[start..end]));
     io::write_all(1, b"\n");
 }
 
-fn kept_from(z: Session) -> u64 {
-    let t = z.told;
-    let record = z.record;
+// The call used so much of work memory; all of it stays if the call used none.
+fn kept_from(t: Told) -> u64 {
+    let record = t.record;
     let s = record.settings;
     if t.word == REFUSED {
         if t.number != 13 {

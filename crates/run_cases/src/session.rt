@@ -49,7 +49,6 @@ pub struct Told {
 // After a call: what it was lent and told; how many frames were joined and their digest; how many calls were full or
 // refused; the turn that comes, with the rest of its budget; the attempts left and the generator.
 pub struct Session {
-    pub record: Record,
     pub told: Told,
     pub budget: u32,
     pub lent: Lent,
@@ -87,11 +86,9 @@ fn end_of(turns: u32, turn: u32) -> u64
 }
 
 fn fresh(job: Job) -> Session {
-    let record = started(job.settings);
     let lent = job.lent;
     Session {
-        record: record,
-        told: said(record, SPENT, 0, 0),
+        told: said(started(job.settings), SPENT, 0, 0),
         budget: 0,
         lent: lent,
         frames: 0,
@@ -147,33 +144,39 @@ fn made(
 ) -> Told {
     refill(filled, 9, work);
     put(c.at, c.value, state);
-    called(turn, c, state, work, frames)
+    on_parts(turn, c, state, work, frames)
 }
 
-fn called(turn: u32, c: Call, state: &mut [f64], work: &mut [f64], frames: &mut [f64]) -> Told {
+fn on_parts(turn: u32, c: Call, state: &mut [f64], work: &mut [f64], frames: &mut [f64]) -> Told {
     let l = c.lent;
-    let record = c.record;
     let a = least(l.state, state.len());
     let b = least(l.work, work.len());
     let e = least(l.frames, frames.len());
-    if turn == 0 {
-        return begun(
-            record,
-            run::simulate::begin(
-                record.settings,
-                &mut state[0..a],
-                &mut work[0..b],
-                &mut frames[0..e],
-            ),
-        );
-    }
-    let advanced = run::simulate::advance(
-        record,
+    called(
+        turn,
+        c.record,
+        c.budget,
         &mut state[0..a],
         &mut work[0..b],
         &mut frames[0..e],
-        c.budget,
-    );
+    )
+}
+
+fn called(
+    turn: u32,
+    record: Record,
+    budget: u32,
+    state: &mut [f64],
+    work: &mut [f64],
+    frames: &mut [f64],
+) -> Told {
+    if turn == 0 {
+        return begun(
+            record,
+            run::simulate::begin(record.settings, state, work, frames),
+        );
+    }
+    let advanced = run::simulate::advance(record, state, work, frames, budget);
     let answer = advanced.answer;
     answered(advanced.record, answer)
 }
@@ -207,10 +210,8 @@ fn said(record: Record, word: u32, number: u64, count: usize) -> Told {
 
 fn after_call(kind: u32, z: Session, c: Call, t: Told, digest: u64) -> Session {
     let rest = rest_of(kind, c.budget, t);
-    let record = t.record;
     let lent = c.lent;
     Session {
-        record: record,
         told: t,
         budget: c.budget,
         lent: lent,

@@ -9,10 +9,10 @@ const TURNS: u32 = 1024;
 pub fn turns(
     first: Carried,
     input: &[u8],
-    state: &mut [f64],
-    work: &mut [f64],
-    frames: &mut [f64],
-    out: &mut [u8],
+    state: &mut [f64; 1032],
+    work: &mut [f64; 5160],
+    frames: &mut [f64; 8192],
+    out: &mut [u8; 147520],
 ) {
     let mut now = first;
     for i in 0..TURNS {
@@ -25,10 +25,10 @@ pub fn turns(
 fn turn(
     now: Carried,
     input: &[u8],
-    state: &mut [f64],
-    work: &mut [f64],
-    frames: &mut [f64],
-    out: &mut [u8],
+    state: &mut [f64; 1032],
+    work: &mut [f64; 5160],
+    frames: &mut [f64; 8192],
+    out: &mut [u8; 147520],
 ) -> Carried {
     match now {
         Carried::More(_, job) => go_on(job, input, state, work, frames, out),

@@ -1,6 +1,6 @@
 // Writes the bytes of an order from its row of the table and its commands.
+use crate::sequences::commands;
 use crate::table::WHOLE;
-use crate::table::word;
 use std::num::wrapping_add_u64;
 use std::num::wrapping_add_usize;
 use std::num::wrapping_sub_u64;
@@ -23,23 +23,23 @@ struct Pen {
     end: usize,
 }
 
-// Writes an order, and zeros after it; answers where its commands end.
-pub fn write(row: usize, commands: u64, bytes: &mut [u8]) -> usize {
+// Writes order k, and zeros after its commands; answers how many bytes it has.
+pub fn write(k: u64, row: &[u64; 12], bytes: &mut [u8; 4100]) -> usize {
     let mut pen = Pen {
         byte: 0,
-        digits: commands,
+        digits: commands(k, row[7]),
         operand: 0,
         left: 0,
         end: 0,
     };
-    for i in 0..bytes.len() {
+    for i in 0..4100usize {
         pen = moved(row, pen);
         bytes[i] = pen.byte;
     }
-    pen.end
+    length(k, row, pen.end)
 }
 
-fn moved(row: usize, pen: Pen) -> Pen {
+fn moved(row: &[u64; 12], pen: Pen) -> Pen {
     if pen.left > 1 {
         return Pen {
             byte: (pen.operand % 256) as u8,
@@ -53,7 +53,7 @@ fn moved(row: usize, pen: Pen) -> Pen {
 }
 
 // The highest digit is the one at 2^60.
-fn next_command(row: usize, pen: Pen) -> Pen {
+fn next_command(row: &[u64; 12], pen: Pen) -> Pen {
     let codes = CODES;
     let sizes = SIZES;
     let digit = (pen.digits / 1152921504606846976) as usize;
@@ -77,18 +77,18 @@ fn digits_after(digits: u64, digit: usize, end: usize) -> u64 {
 }
 
 // What follows a command that stands at `at`.
-fn operand(row: usize, digit: usize, at: usize) -> u64 {
+fn operand(row: &[u64; 12], digit: usize, at: usize) -> u64 {
     match digit {
-        8 | 14 | 15 => word(row, 8 + at % 2),
+        8 | 14 | 15 => row[8 + at % 2],
         13 => 2,
-        _ => word(row, digit),
+        _ => row[digit % 12],
     }
 }
 
 // How many bytes order k has: the length of its row, a byte more for each order after the row's first.
-pub fn length(k: u64, row: usize, end: usize) -> u64 {
-    if word(row, 10) == WHOLE {
-        return end as u64;
+fn length(k: u64, row: &[u64; 12], end: usize) -> usize {
+    if row[10] == WHOLE {
+        return end;
     }
-    wrapping_add_u64(word(row, 10), wrapping_sub_u64(k, word(row, 0)))
+    wrapping_add_u64(row[10], wrapping_sub_u64(k, row[0])) as usize
 }

@@ -15,31 +15,39 @@ fn main() {
     let mut work = [0.0; 5160];
     let mut frames = [0.0; 8192];
     let mut out = [0u8; 147520];
-    all(&mut input, &mut state, &mut work, &mut frames, &mut out);
-}
-
-fn all(input: &mut [u8], state: &mut [f64], work: &mut [f64], frames: &mut [f64], out: &mut [u8]) {
+    let mut words = [0u64; 12];
     let mut row = 0;
     for k in 0..table::ORDERS {
-        row = table::row_of(k, row);
-        order(k, row, input, state, work, frames, out);
+        table::read(row, &mut words);
+        let length = draft::write(k, &words, &mut input);
+        order(
+            k,
+            length,
+            &input,
+            &mut state,
+            &mut work,
+            &mut frames,
+            &mut out,
+        );
+        row = table::row_after(k, row, words[11]);
     }
 }
 
 fn order(
     k: u64,
-    row: usize,
-    input: &mut [u8],
-    state: &mut [f64],
-    work: &mut [f64],
-    frames: &mut [f64],
-    out: &mut [u8],
+    length: usize,
+    input: &[u8; 4100],
+    state: &mut [f64; 1032],
+    work: &mut [f64; 5160],
+    frames: &mut [f64; 8192],
+    out: &mut [u8; 147520],
 ) {
-    let commands_end = draft::write(row, sequences::commands(k, row), input);
-    let end = least(draft::length(k, row, commands_end) as usize, input.len());
-    heading(k, &input[0..end]);
-    let first = begin_order(&input[0..end], state, work, frames, out);
-    carry::turns(first, &input[0..end], state, work, frames, out);
+    let whole = &input[..];
+    let end = least(length, whole.len());
+    let bytes = &whole[0..end];
+    heading(k, bytes);
+    let first = begin_order(bytes, state, work, frames, out);
+    carry::turns(first, bytes, state, work, frames, out);
 }
 
 // The order's number, how many bytes it has and their digest.

@@ -1,5 +1,4 @@
 // The commands of the orders. Orders 90 to 278 have the same settings and these, the others those of their row.
-use crate::table::word;
 use std::num::wrapping_sub_u64;
 
 #[rattlefmt::skip]
@@ -45,11 +44,11 @@ const SEQUENCES: [u64; 189] = [
     0x12345679C0000000, 0x12345679D0000000, 0x1234567000000000,
 ];
 
-pub fn commands(k: u64, row: usize) -> u64 {
+pub fn commands(k: u64, of_row: u64) -> u64 {
     let table = SEQUENCES;
     let i = wrapping_sub_u64(k, 90);
     if i < 189 {
         return table[i as usize];
     }
-    word(row, 7)
+    of_row
 }

@@ -311,16 +311,22 @@ const TABLE: [u64; 2079] = [
     462, 0x402254142BEF4050, 5, 0x3FFEEC9E50B20782, 0x3FB856D28ADD32F9, 1, 0, 0x6123457889000000, 9,  13, WHOLE,
 ];
 
-pub fn word(row: usize, column: usize) -> u64 {
-    let table = TABLE;
-    table[row % ROWS * 11 + column % 11]
+// Reads a row and, after it, the number of the next row's first order.
+pub fn read(row: usize, words: &mut [u64; 12]) {
+    for i in 0..12usize {
+        words[i] = word(row, i);
+    }
 }
 
-// The row of order k, after the row of the order before it.
-pub fn row_of(k: u64, row: usize) -> usize {
-    let next = row % ROWS + 1;
-    if word(next, 0) == k {
-        return next;
+fn word(row: usize, column: usize) -> u64 {
+    let table = TABLE;
+    table[(row % ROWS * 11 + column % 12) % 2079]
+}
+
+// The row of the order after order k.
+pub fn row_after(k: u64, row: usize, next: u64) -> usize {
+    if k % ORDERS + 1 == next {
+        return row % ROWS + 1;
     }
     row
 }

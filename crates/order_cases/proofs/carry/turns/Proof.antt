@@ -1,13 +1,11 @@
 -- `turns` is safe and ends: the loop's number stays within its range. Assumes nothing.
-use mathlib.Core.Path.{_≡_}
 use Prim.Native.Nat.{_≤_, _-_}
 use borrow.Author.Needs.{needs}
-use lib.ListN.{length}
 use Rattle.order_cases.proofs.carry.turns.Statement.{statement}
 use Rattle.order_cases.proofs.carry.turns.Tie as tie
 
 abbrev Inv-loop : tie.InvT-loop
-Inv-loop input state₀ work₀ frames₀ out₀ now₀ i₀ state work frames out now i = (i ≤ 1024) × (length state ≡ length state₀) × (length work ≡ length work₀) × (length frames ≡ length frames₀) × (length out ≡ length out₀)
+Inv-loop input state₀ work₀ frames₀ out₀ now₀ i₀ state work frames out now i = i ≤ 1024
 
 abbrev μ-loop : tie.MeasureT-loop
 μ-loop input state₀ work₀ frames₀ out₀ now₀ i₀ state work frames out now i = 1024 - i
@@ -15,4 +13,4 @@ abbrev μ-loop : tie.MeasureT-loop
 pub turns-spec : {M : Type 1} → statement M
 turns-spec =
     tie.close
-    (tie.spec Inv-loop μ-loop (λ c. search needs) (λ c κs. search needs) (λ c κs. search needs) (λ c. search needs) (λ c. search needs) (λ c. search needs) (λ c. search needs) (λ c. search needs) (λ c. search needs) (λ c. search needs) (λ c. search needs))
+    (tie.spec Inv-loop μ-loop (λ c. search needs) (λ c κs. search needs) (λ c κs. search needs) (λ c. search needs) (λ c. search needs) (λ c. search needs) (λ c. search needs))

@@ -1,200 +1,160 @@
 // What the calls answer where a level or a length is refused, and that memories stay as they were. Level 5 wants 264
 // numbers of state memory and 1320 of work memory; there are 300 and 1400, of which a call gets the first.
-use crate::states;
+ghost use Prim.Native.Nat.{_<_, _≤_};
+ghost use lib.ListN.{length};
+use crate::lines;
 use cases::arguments;
 use cases::digest::digest;
 use physics::integration::Stepped;
 use physics::integration::rk4_step;
+use physics::state::store;
+use physics::state_builder::build_initial_state;
 use vectors::answer::Answer;
-use vectors::bits::bits_of;
+
+// A call, its level, and how much is lent of state and of work memory.
+struct Row(u32, u32, usize, usize);
+
+// As in oracle/physics/refusals.rs: the calls are 0 for rk4_step, 1 for build_initial_state, and 2 for store, which
+// stores from work memory.
+#[rattlefmt::skip]
+const ROWS: [Row; 36] = [
+    Row(0, 5, 264, 1320), Row(0, 5, 300, 1400), Row(0, 5, 263, 1320), Row(0, 5, 264, 1319), Row(0, 5, 263, 1319), 
+    Row(0, 5, 0, 1320), Row(0, 5, 264, 0), Row(0, 4, 264, 1320), Row(0, 17, 264, 1320), Row(0, 261, 264, 1320), 
+    Row(0, 4, 263, 1320), Row(0, 17, 264, 1319), Row(0, 261, 0, 0), Row(0, 6, 300, 1400),
+    Row(1, 5, 0, 1320), Row(1, 5, 0, 1400), Row(1, 5, 0, 1319), Row(1, 5, 0, 264), Row(1, 5, 0, 0), 
+    Row(1, 4, 0, 1320), Row(1, 17, 0, 1320), Row(1, 261, 0, 1320), Row(1, 4, 0, 1319), Row(1, 6, 0, 1400),
+    Row(2, 5, 264, 264), Row(2, 5, 300, 300), Row(2, 5, 264, 300), Row(2, 5, 264, 263), Row(2, 5, 263, 264), 
+    Row(2, 5, 0, 0), Row(2, 4, 264, 264), Row(2, 17, 264, 264), Row(2, 261, 264, 264), Row(2, 4, 264, 263), 
+    Row(2, 17, 263, 264), Row(2, 6, 300, 300),
+];
 
 pub fn all() {
-    steps();
-    builds();
-    stores();
+    let rows = ROWS;
+    for i in 0..36 {
+        case(rows[i]);
+    }
 }
 
-fn steps() {
-    step(5, 264, 1320);
-    step(5, 300, 1400);
-    step(5, 263, 1320);
-    step(5, 264, 1319);
-    step(5, 263, 1319);
-    step(5, 0, 1320);
-    step(5, 264, 0);
-    step(4, 264, 1320);
-    step(17, 264, 1320);
-    step(261, 264, 1320);
-    step(4, 263, 1320);
-    step(17, 264, 1319);
-    step(261, 0, 0);
-    step(6, 300, 1400);
-}
-
-fn step(level: u32, of_state: usize, of_work: usize) {
+fn case(row: Row) {
     let mut state = [0.0; 300];
     let mut work = [0.0; 1400];
     arguments::list(5, 7, &mut state);
-    arguments::list(5, 8, &mut work);
-    heading(b"rk4_step", level);
-    lengths(of_state, of_work);
-    step_in(level, of_state, of_work, &state, &mut work);
+    arguments::list(5, seed(row.0), &mut work);
+    let stepped = call(row, &mut state, &mut work);
+    heading(row);
+    answer(row.0, stepped, &state, &work);
 }
 
-fn step_in(level: u32, of_state: usize, of_work: usize, state: &[f64], work: &mut [f64]) {
-    if of_state <= state.len() {
-        if of_work <= work.len() {
-            let stepped = rk4_step(
-                level,
-                3.7,
-                states::base(level),
-                &state[0..of_state],
-                &mut work[0..of_work],
-            );
-            match stepped {
-                Stepped::To(time) => stepped_to(time, state, work),
-                Stepped::RefusedLevel => refused(5, state, work),
-                Stepped::RefusedLength => refused(11, state, work),
-            }
+fn seed(call: u32) -> u64 {
+    if call == 2 {
+        return 9;
+    }
+    8
+}
+
+fn call(row: Row, state: &mut [f64], work: &mut [f64]) -> Stepped
+    requires { ⌜ (300 ≤ length (now state)) × (1400 ≤ length (now work)) ⌝ }
+{
+    let call = row.0;
+    let level = row.1;
+    let of_state = lines::at_most(300, row.2);
+    let of_work = lines::at_most(1400, row.3);
+    match call {
+        0 => rk4_step(
+            level,
+            3.7,
+            lines::base(level),
+            &state[0..of_state],
+            &mut work[0..of_work],
+        ),
+        1 => stepped(build_initial_state(level, 10.0, &mut work[0..of_work])),
+        _ => stepped(store(level, &work[0..of_work], &mut state[0..of_state])),
+    }
+}
+
+fn stepped(answer: Answer) -> Stepped {
+    match answer {
+        Answer::Done => Stepped::To(0.0),
+        Answer::RefusedLevel => Stepped::RefusedLevel,
+        Answer::RefusedLength => Stepped::RefusedLength,
+    }
+}
+
+fn heading(row: Row) {
+    let call = row.0;
+    match call {
+        0 => {
+            lines::number(b"rk4_step level ", row.1 as u64);
+            lines::number(b" lengths ", row.2 as u64);
+            lines::number(b" ", row.3 as u64);
+        }
+        1 => {
+            lines::number(b"build_initial_state level ", row.1 as u64);
+            lines::number(b" length ", row.3 as u64);
+        }
+        _ => {
+            lines::number(b"store level ", row.1 as u64);
+            lines::number(b" lengths ", row.3 as u64);
+            lines::number(b" ", row.2 as u64);
         }
     }
 }
 
-fn stepped_to(time: f64, state: &[f64], work: &[f64]) {
-    answer(0);
-    io::write_all(1, b" time ");
-    io::print_hex(1, bits_of(time), 16);
-    left(digest(state));
-    made(work);
+fn answer(call: u32, stepped: Stepped, state: &[f64], work: &[f64])
+    requires { ⌜ 1400 ≤ length (now work) ⌝ }
+{
+    match stepped {
+        Stepped::To(time) => {
+            io::write_all(1, b" answer 0");
+            done(call, time, state, work);
+        }
+        Stepped::RefusedLevel => {
+            io::write_all(1, b" answer 5");
+            refused(call, state, work);
+        }
+        Stepped::RefusedLength => {
+            io::write_all(1, b" answer 11");
+            refused(call, state, work);
+        }
+    }
 }
 
-fn refused(number: u64, state: &[f64], work: &[f64]) {
-    answer(number);
-    left(digest(state));
-    io::write_all(1, b" ");
-    io::print_decimal(1, digest(work));
+fn refused(call: u32, state: &[f64], work: &[f64])
+    requires { ⌜ 1400 ≤ length (now work) ⌝ }
+{
+    match call {
+        0 => {
+            lines::number(b" left ", digest(state));
+            lines::number(b" ", digest(work));
+        }
+        1 => lines::number(b" left ", digest(work)),
+        _ => {
+            lines::number(b" left ", digest(&work[0..300]));
+            lines::number(b" ", digest(state));
+        }
+    }
     io::write_all(1, b"\n");
 }
 
-// The state that stands in work memory at level 5, and the numbers after its 40 vectors.
-fn made(work: &[f64]) {
-    if 1320 <= work.len() {
-        io::write_all(1, b" made ");
-        io::print_decimal(1, digest(&work[264..528]));
-        io::write_all(1, b" beyond ");
-        io::print_decimal(1, digest(&work[1320..]));
-        io::write_all(1, b"\n");
-    }
-}
-
-fn builds() {
-    build(5, 1320);
-    build(5, 1400);
-    build(5, 1319);
-    build(5, 264);
-    build(5, 0);
-    build(4, 1320);
-    build(17, 1320);
-    build(261, 1320);
-    build(4, 1319);
-    build(6, 1400);
-}
-
-fn build(level: u32, of_work: usize) {
-    let mut work = [0.0; 1400];
-    arguments::list(5, 8, &mut work);
-    heading(b"build_initial_state", level);
-    io::write_all(1, b" length ");
-    io::print_decimal(1, of_work as u64);
-    build_in(level, of_work, &mut work);
-}
-
-fn build_in(level: u32, of_work: usize, work: &mut [f64]) {
-    if of_work <= work.len() {
-        let number = number(physics::state_builder::build_initial_state(
-            level,
-            10.0,
-            &mut work[0..of_work],
-        ));
-        answer(number);
-        if number == 0 {
+fn done(call: u32, time: f64, state: &[f64], work: &[f64])
+    requires { ⌜ 1400 ≤ length (now work) ⌝ }
+{
+    match call {
+        0 => {
+            lines::bits(b" time ", time);
+            lines::number(b" left ", digest(state));
             made(work);
-        } else {
-            left(digest(work));
-            io::write_all(1, b"\n");
         }
+        1 => made(work),
+        _ => refused(2, state, work),
     }
 }
 
-fn stores() {
-    store(5, 264, 264);
-    store(5, 300, 300);
-    store(5, 300, 264);
-    store(5, 263, 264);
-    store(5, 264, 263);
-    store(5, 0, 0);
-    store(4, 264, 264);
-    store(17, 264, 264);
-    store(261, 264, 264);
-    store(4, 263, 264);
-    store(17, 264, 263);
-    store(6, 300, 300);
-}
-
-fn store(level: u32, of_from: usize, of_state: usize) {
-    let mut from = [0.0; 300];
-    let mut state = [0.0; 300];
-    arguments::list(5, 9, &mut from);
-    arguments::list(5, 7, &mut state);
-    heading(b"store", level);
-    lengths(of_from, of_state);
-    store_in(level, of_from, of_state, &from, &mut state);
-}
-
-fn store_in(level: u32, of_from: usize, of_state: usize, from: &[f64], state: &mut [f64]) {
-    if of_from <= from.len() {
-        if of_state <= state.len() {
-            answer(number(physics::state::store(
-                level,
-                &from[0..of_from],
-                &mut state[0..of_state],
-            )));
-            left(digest(from));
-            io::write_all(1, b" ");
-            io::print_decimal(1, digest(state));
-            io::write_all(1, b"\n");
-        }
-    }
-}
-
-// 01's number of a refusal, 0 where there is none.
-fn number(answer: Answer) -> u64 {
-    match answer {
-        Answer::Done => 0,
-        Answer::RefusedLevel => 5,
-        Answer::RefusedLength => 11,
-    }
-}
-
-fn heading(name: &[u8], level: u32) {
-    io::write_all(1, name);
-    io::write_all(1, b" level ");
-    io::print_decimal(1, level as u64);
-}
-
-fn lengths(first: usize, second: usize) {
-    io::write_all(1, b" lengths ");
-    io::print_decimal(1, first as u64);
-    io::write_all(1, b" ");
-    io::print_decimal(1, second as u64);
-}
-
-fn answer(number: u64) {
-    io::write_all(1, b" answer ");
-    io::print_decimal(1, number);
-}
-
-fn left(d: u64) {
-    io::write_all(1, b" left ");
-    io::print_decimal(1, d);
+// The state that stands in work memory at level 5, and the numbers after its 40 vectors.
+fn made(work: &[f64])
+    requires { ⌜ 1400 ≤ length (now work) ⌝ }
+{
+    lines::number(b" made ", digest(&work[264..528]));
+    lines::number(b" beyond ", digest(&work[1320..1400]));
+    io::write_all(1, b"\n");
 }

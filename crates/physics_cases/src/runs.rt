@@ -1,162 +1,158 @@
-// Runs from the initial state with a constant step. A run ends after its last step or at a state with a NaN.
-use crate::memories::keep;
-use crate::states;
+// Steps of a constant length, from the initial state and from forged states. A run ends after its last step or at a state
+// with a NaN.
+ghost use Prim.Native.Nat.{_<_, _≤_};
+ghost use lib.ListN.{length};
+use crate::forged;
+use crate::lines;
 use physics::integration::Stepped;
 use physics::integration::rk4_step;
 use physics::state::has_nan;
+use physics::state::store;
 use physics::state_builder::build_initial_state;
-use vectors::bits::bits_of;
+use vectors::bits::of_bits;
+use vectors::grid::length_at_discretization;
 
-// As in oracle/physics/runs.rs.
-const AMPLITUDES: [f64; 13] = [
-    0.0,
-    0.5,
-    10.0,
-    25.0,
-    26.0,
-    35.5,
-    60.0,
-    163.1,
-    -20.0,
-    1e-200,
-    668.0,
-    672.0,
-    700.0,
+// As in oracle/physics/runs.rs and oracle/physics/forged.rs.
+#[rattlefmt::skip]
+const AMPLITUDES: [f64; 13] = [0.0, 0.5, 10.0, 25.0, 26.0, 35.5, 60.0, 163.1, -20.0, 1e-200, 668.0, 672.0, 700.0];
+
+const FEW: [f64; 4] = [10.0, 35.5, -20.0, 700.0];
+
+#[rattlefmt::skip]
+const TIMES: [u64; 8] = [
+    0x0000000000000000, 0x8000000000000000, 0x400D99999999999A, 0x400D99999999999A,
+    0x400D99999999999A, 0x400D99999999999A, 0x7FF8000000000000, 0x7FF0000000000000,
 ];
 
+#[rattlefmt::skip]
+const FACTORS: [u64; 8] = [
+    0x0000000000000000, 0x8000000000000000, 0xBFF0000000000000, 0x0000000000000001,
+    0x7FF0000000000000, 0x7FF8000000000000, 0x3FF0000000000000, 0x3FF0000000000000,
+];
+
+const SPEEDS: [f64; 2] = [1.0, 0.25];
+
+// The step is factor times the clock's base. Seed 0: from the initial state.
 struct Case {
+    kind: u32,
     level: u32,
     amplitude: f64,
-    slowed: bool,
-}
-
-pub fn all() {
-    amplitudes(5);
-    amplitudes(6);
-    amplitudes(7);
-    amplitudes(8);
-    amplitudes(9);
-    few(10);
-    few(11);
-    few(12);
-    few(13);
-}
-
-fn amplitudes(level: u32) {
-    let table = AMPLITUDES;
-    for i in 0..13 {
-        both(level, table[i]);
-    }
-}
-
-fn both(level: u32, amplitude: f64) {
-    small(Case {
-        level: level,
-        amplitude: amplitude,
-        slowed: false,
-    });
-    small(Case {
-        level: level,
-        amplitude: amplitude,
-        slowed: true,
-    });
-}
-
-fn few(level: u32) {
-    large(Case {
-        level: level,
-        amplitude: 10.0,
-        slowed: false,
-    });
-    large(Case {
-        level: level,
-        amplitude: 35.5,
-        slowed: false,
-    });
-    large(Case {
-        level: level,
-        amplitude: -20.0,
-        slowed: false,
-    });
-    large(Case {
-        level: level,
-        amplitude: 700.0,
-        slowed: false,
-    });
-}
-
-// Memories for level 9.
-fn small(case: Case) {
-    let mut state = [0.0; 4104];
-    let mut work = [0.0; 20520];
-    lend(case, 100, &mut state, &mut work);
+    seed: u64,
+    replaced: u64,
+    time: f64,
+    factor: f64,
+    last: u32,
 }
 
 // Memories for level 13.
-fn large(case: Case) {
+pub fn all() {
     let mut state = [0.0; 65544];
     let mut work = [0.0; 327720];
-    lend(case, 2, &mut state, &mut work);
-}
-
-// As much of the memories as the level wants.
-fn lend(case: Case, last: u32, state: &mut [f64], work: &mut [f64]) {
-    let n = vectors::grid::length_at_discretization(case.level);
-    if n <= 8193 {
-        let of_state = 8 * n;
-        let of_work = 40 * n;
-        if of_state <= state.len() {
-            if of_work <= work.len() {
-                run(case, last, &mut state[0..of_state], &mut work[0..of_work]);
-            }
-        }
+    for i in 0..235 {
+        run(case_at(i), &mut state, &mut work);
     }
 }
 
-fn run(case: Case, last: u32, state: &mut [f64], work: &mut [f64]) {
-    build_initial_state(case.level, case.amplitude, work);
-    let time = arrive(case, 0, 0.0, state, work);
-    steps_from(case, time, last, state, work);
+fn case_at(i: usize) -> Case
+    requires { ⌜ i < 235 ⌝ }
+{
+    if i < 130 {
+        return initial(5 + i / 26, AMPLITUDES[i / 2 % 13], SPEEDS[i % 2], 100);
+    }
+    if i < 146 {
+        let j = i - 130;
+        return initial(10 + j / 4, FEW[j % 4], 1.0, 2);
+    }
+    if i < 227 {
+        let j = i - 146;
+        return forged(1, 5 + j / 27, 1 + j / 9 % 3, j % 9, 3.7, 1.0);
+    }
+    let j = i - 227;
+    forged(2, 5, 1, 8, of_bits(TIMES[j]), of_bits(FACTORS[j]))
 }
 
-fn steps_from(case: Case, start: f64, last: u32, state: &mut [f64], work: &mut [f64]) {
-    let mut time = start;
-    for steps in 0..last {
-        time = attempt(case, steps + 1, time, state, work);
+fn initial(level: usize, amplitude: f64, factor: f64, last: u32) -> Case
+    requires { ⌜ level < 17 ⌝ }
+{
+    Case {
+        kind: 0,
+        level: level as u32,
+        amplitude: amplitude,
+        seed: 0,
+        replaced: 0,
+        time: 0.0,
+        factor: factor,
+        last: last,
     }
 }
 
-// One step; the time after it, or NaN if the run has ended.
-fn attempt(case: Case, steps: u32, time: f64, state: &mut [f64], work: &mut [f64]) -> f64 {
-    if time != time {
-        return time;
+fn forged(kind: u32, level: usize, seed: usize, replaced: usize, time: f64, factor: f64) -> Case
+    requires { ⌜ level < 17 ⌝ }
+{
+    Case {
+        kind: kind,
+        level: level as u32,
+        amplitude: 0.0,
+        seed: seed as u64,
+        replaced: replaced as u64,
+        time: time,
+        factor: factor,
+        last: 1,
     }
-    let stepped = rk4_step(case.level, time, delta(case), state, work);
+}
+
+fn run(case: Case, state: &mut [f64], work: &mut [f64])
+    requires { ⌜ 327720 ≤ length (now work) ⌝ }
+{
+    let n = lines::at_most(8193, length_at_discretization(case.level));
+    let from = 8 * n;
+    let to = 16 * n;
+    let delta = lines::base(case.level) * case.factor;
+    let mut time = case.time;
+    let mut steps = 0;
+    let mut left = begin(case, n, work);
+    while 0 < left {
+        store(case.level, &work[from..to], state);
+        time = time_after(rk4_step(case.level, time, delta, state, work));
+        steps += 1;
+        left = arrive(case, steps, left - 1, time, &work[from..to]);
+    }
+}
+
+// How many steps are left to take from the state that this leaves in work memory.
+fn begin(case: Case, n: usize, work: &mut [f64]) -> u32
+    requires { ⌜ (n ≤ 8193) × (327720 ≤ length (now work)) ⌝ }
+{
+    let from = 8 * n;
+    let to = 16 * n;
+    if case.seed == 0 {
+        build_initial_state(case.level, case.amplitude, work);
+        return arrive(case, 0, case.last, 0.0, &work[from..to]);
+    }
+    forged::forge(case.seed, case.replaced, &mut work[from..to]);
+    case.last
+}
+
+fn time_after(stepped: Stepped) -> f64 {
     match stepped {
-        Stepped::To(next) => arrive(case, steps, next, state, work),
-        Stepped::RefusedLevel => 0.0 / 0.0,
-        Stepped::RefusedLength => 0.0 / 0.0,
+        Stepped::To(time) => time,
+        _ => 0.0 / 0.0,
     }
 }
 
-fn delta(case: Case) -> f64 {
-    if case.slowed {
-        return states::base(case.level) * vectors::constants::BH_SLOWDOWN_FACTOR;
-    }
-    states::base(case.level)
-}
-
-// Takes the state that stands in work memory; its time, or NaN if it ends the run.
-fn arrive(case: Case, steps: u32, time: f64, state: &mut [f64], work: &[f64]) -> f64 {
-    keep(case.level, state, work);
-    let broken = has_nan(time, state);
+// Prints a state where one is due; how many steps are left after it.
+fn arrive(case: Case, steps: u32, left: u32, time: f64, vectors: &[f64]) -> u32
+    ensures { λ r. ⌜ r ≤ left ⌝ }
+{
+    let broken = has_nan(time, vectors);
     if is_printed(steps, broken) {
-        line(case, steps, time, state);
+        heading(case, steps);
+        lines::state(time, vectors);
     }
     if broken {
-        return 0.0 / 0.0;
+        return 0;
     }
-    time
+    left
 }
 
 fn is_printed(steps: u32, broken: bool) -> bool {
@@ -166,21 +162,27 @@ fn is_printed(steps: u32, broken: bool) -> bool {
     }
 }
 
-fn line(case: Case, steps: u32, time: f64, state: &[f64]) {
-    heading(case);
-    io::write_all(1, b" steps ");
-    io::print_decimal(1, steps as u64);
-    states::rest(time, state);
-}
-
-fn heading(case: Case) {
-    io::write_all(1, b"run level ");
-    io::print_decimal(1, case.level as u64);
-    io::write_all(1, b" amplitude ");
-    io::print_hex(1, bits_of(case.amplitude), 16);
-    if case.slowed {
-        io::write_all(1, b" slowed");
-    } else {
-        io::write_all(1, b" base");
+fn heading(case: Case, steps: u32) {
+    let kind = case.kind;
+    match kind {
+        0 => {
+            lines::number(b"run level ", case.level as u64);
+            lines::bits(b" amplitude ", case.amplitude);
+            if case.factor == 1.0 {
+                lines::number(b" base steps ", steps as u64);
+            } else {
+                lines::number(b" slowed steps ", steps as u64);
+            }
+        }
+        1 => {
+            lines::number(b"forged level ", case.level as u64);
+            lines::number(b" seed ", case.seed);
+            lines::number(b" replaced ", case.replaced);
+        }
+        _ => {
+            lines::number(b"forged level ", case.level as u64);
+            lines::bits(b" time ", case.time);
+            lines::bits(b" factor ", case.factor);
+        }
     }
 }

@@ -1,10 +1,11 @@
 // The black hole mass and the total energy of lent vectors.
 ghost use Prim.Native.Nat.{_<_};
 use crate::lines;
+use crate::memories;
 use cases::arguments;
 use physics::constraints::black_hole_mass;
 use physics::state::total_energy;
-use vectors::grid::length_at_discretization;
+use vectors::bits::bits_of;
 
 pub fn all() {
     for i in 0..44 {
@@ -19,22 +20,25 @@ fn case(level: u32, kind: u32)
 {
     let mut radial_factor = [0.0; 257];
     let mut mass = [0.0; 257];
-    let n = lines::at_most(257, length_at_discretization(level));
+    let n = memories::points(257, level);
     arguments::vector(level, kind, &mut radial_factor);
     arguments::vector(level, (kind + 1) % 11, &mut mass);
-    lines::number(b"diagnostics level ", level as u64);
-    lines::number(b" vector ", kind as u64);
-    lines::bits(b" energy ", total_energy(&mass[0..n]));
-    lines::formed(black_hole_mass(&radial_factor[0..n], &mass[0..n]));
-    io::write_all(1, b"\n");
+    lines::say(
+        b"diagnostics level # vector #",
+        [level as u64, kind as u64, 0, 0, 0, 0, 0],
+    );
+    lines::ends(&radial_factor[0..n], &mass[0..n]);
+    lines::say(b"\n", [0; 7]);
 }
 
 // A mass that has no number where one is asked for.
 fn short() {
-    io::write_all(1, b"short");
+    lines::say(b"short", [0; 7]);
     lines::formed(black_hole_mass(&[1.0, 1.0], &[0.5]));
-    io::write_all(1, b"\nshort");
+    lines::say(b"\nshort", [0; 7]);
     lines::formed(black_hole_mass(&[1.0, 0.0], &[0.5]));
-    lines::bits(b"\nshort energy ", total_energy(&[]));
-    io::write_all(1, b"\n");
+    lines::say(
+        b"\nshort energy $\n",
+        [bits_of(total_energy(&[])), 0, 0, 0, 0, 0, 0],
+    );
 }

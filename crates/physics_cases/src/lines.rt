@@ -1,47 +1,52 @@
-// What is printed: a word with its number, and the line of a state, of which there are the eight vectors and nothing else.
-ghost use Prim.Native.Nat.{_≤_};
+// What is printed: texts with values in them, and the line of a state.
 use cases::digest::digest;
 use physics::constraints::BlackHole;
 use physics::constraints::black_hole_mass;
-use physics::state::has_nan;
 use physics::state::total_energy;
 use vectors::bits::bits_of;
 
-pub fn number(word: &[u8], n: u64) {
-    io::write_all(1, word);
-    io::print_decimal(1, n);
-}
-
-pub fn bits(word: &[u8], x: f64) {
-    io::write_all(1, word);
-    io::print_hex(1, bits_of(x), 16);
-}
-
-// n, or the most that there may be.
-pub fn at_most(most: usize, n: usize) -> usize
-    ensures { λ r. ⌜ r ≤ most ⌝ }
-{
-    if most < n {
-        return most;
+// Prints a text with the values one after the other: in decimal for each #, in hexadecimal for each $.
+pub fn say(text: &[u8], values: [u64; 7]) {
+    let mut next = 0;
+    for i in 0..text.len() {
+        next = piece(text[i], values[next % 7], next % 7);
     }
-    n
 }
 
-// The clock's base: h × 0.95.
-pub fn base(level: u32) -> f64 {
-    vectors::grid::delta(level) * vectors::constants::COURANT_NUMBER
+// Prints a byte of a text, or the value in its place; which value is next.
+fn piece(byte: u8, value: u64, next: usize) -> usize {
+    match byte {
+        b'#' => {
+            io::print_decimal(1, value);
+            next % 7 + 1
+        }
+        b'$' => {
+            io::print_hex(1, value, 16);
+            next % 7 + 1
+        }
+        _ => {
+            io::write_all(1, &[byte]);
+            next
+        }
+    }
 }
 
-// The rest of a state's line, after the case.
-pub fn state(time: f64, vectors: &[f64]) {
-    bits(b" time ", time);
-    io::write_all(1, b" vectors");
+// The rest of a state's line, after the case. A state is its eight vectors.
+pub fn state(time: f64, broken: bool, vectors: &[f64]) {
+    let n = vectors.len() / 8;
+    let mass = 4 * n;
+    let radial_factor = 5 * n;
+    let lapse = 6 * n;
+    say(b" time $ vectors", [bits_of(time), 0, 0, 0, 0, 0, 0]);
     digests(vectors);
-    ends(vectors);
-    if has_nan(time, vectors) {
-        io::write_all(1, b" nan yes\n");
+    ends(
+        &vectors[radial_factor..lapse],
+        &vectors[mass..radial_factor],
+    );
+    if broken {
+        say(b" nan yes\n", [0; 7]);
     } else {
-        io::write_all(1, b" nan no\n");
+        say(b" nan no\n", [0; 7]);
     }
 }
 
@@ -50,27 +55,22 @@ fn digests(vectors: &[f64]) {
     for k in 0..8 {
         let from = n * k;
         let to = from + n;
-        number(b" ", digest(&vectors[from..to]));
+        say(b" #", [digest(&vectors[from..to]), 0, 0, 0, 0, 0, 0]);
     }
 }
 
-fn ends(vectors: &[f64]) {
-    let n = vectors.len() / 8;
-    let mass = 4 * n;
-    let radial_factor = 5 * n;
-    let lapse = 6 * n;
-    bits(b" energy ", total_energy(&vectors[mass..radial_factor]));
-    formed(black_hole_mass(
-        &vectors[radial_factor..lapse],
-        &vectors[mass..radial_factor],
-    ));
+// The total energy and the black hole mass.
+pub fn ends(radial_factor: &[f64], mass: &[f64]) {
+    say(
+        b" energy $",
+        [bits_of(total_energy(mass)), 0, 0, 0, 0, 0, 0],
+    );
+    formed(black_hole_mass(radial_factor, mass));
 }
 
 pub fn formed(hole: BlackHole) {
     match hole {
-        BlackHole::Formed(m) => bits(b" mass ", m),
-        BlackHole::Absent => {
-            io::write_all(1, b" mass none");
-        }
+        BlackHole::Formed(m) => say(b" mass $", [bits_of(m), 0, 0, 0, 0, 0, 0]),
+        BlackHole::Absent => say(b" mass none", [0; 7]),
     }
 }

@@ -2,6 +2,7 @@
 mod diagnostics;
 mod forged;
 mod lines;
+mod memories;
 mod refusals;
 mod runs;
 

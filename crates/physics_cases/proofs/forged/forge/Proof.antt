@@ -3,8 +3,8 @@ use mathlib.Core.Path.{_≡_}
 use Prim.Native.Nat.{_*_, _≤_, _-_, _/_}
 use native.Mathlib.Omega.{arith}
 use lib.ListN.{length}
-use borrow.Author.Needs.{needs}
 use Rattle.physics_cases.proofs.Eighths.{within}
+use borrow.Author.Needs.{needs}
 use Rattle.physics_cases.proofs.forged.forge.Statement.{statement}
 use Rattle.physics_cases.proofs.forged.forge.Tie as tie
 
@@ -17,4 +17,4 @@ abbrev μ-loop : tie.MeasureT-loop
 pub forge-spec : {M : Type 1} → statement M
 forge-spec =
     tie.close
-    (tie.spec Inv-loop μ-loop (λ c. search needs) (λ c. omega (arith, within (length (c .before .before .before .args .vectors .now) / 8) (c .before .loop .k) (omega arith))) (λ c. omega (arith, within (length (c .before .before .before .args .vectors .now) / 8) (c .before .loop .k) (omega arith))) (λ c. omega (arith, within (length (c .before .before .before .args .vectors .now) / 8) (c .before .loop .k) (omega arith))) (λ c. search needs) (λ c. search needs) (λ c. omega (arith, within (length (c .before .before .before .args .vectors .now) / 8) (c .before .loop .k) (omega arith))) (λ c κs. search needs) (λ c. search needs) (λ c. search needs) (λ c. search needs) (λ c. search needs) (λ c. search needs))
+    (tie.spec Inv-loop μ-loop (λ c. search needs) (λ c. omega (arith, within (length (c .before .before .before .args .vectors .now) / 8) (c .before .loop .k) (omega arith))) (λ c. omega (arith, within (length (c .before .before .before .args .vectors .now) / 8) (c .before .loop .k) (omega arith))) (λ c. search needs) (λ c. search needs) (λ c κs. search needs) (λ c κs. search needs) (λ c. omega (arith, within (length (c .before .before .before .before .before .args .vectors .now) / 8) (c .before .before .before .loop .k) (omega arith))) (λ c. search needs) (λ c. search needs) (λ c. omega (arith, within (length (c .before .before .before .before .before .args .vectors .now) / 8) (c .before .before .before .loop .k) (omega arith))) (λ c κs. search needs) (λ c. search needs) (λ c. search needs) (λ c. search needs) (λ c. search needs) (λ c. search needs))

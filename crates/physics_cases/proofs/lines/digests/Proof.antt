@@ -1,9 +1,9 @@
 -- `digests` is safe and ends: vector k ends within the eight. Assumes nothing.
 use Prim.Native.Nat.{_*_, _≤_, _-_, _/_}
 use native.Mathlib.Omega.{arith}
-use borrow.Author.Needs.{needs}
 use lib.ListN.{length}
 use Rattle.physics_cases.proofs.Eighths.{within}
+use borrow.Author.Needs.{needs}
 use Rattle.physics_cases.proofs.lines.digests.Statement.{statement}
 use Rattle.physics_cases.proofs.lines.digests.Tie as tie
 

@@ -1,97 +1,92 @@
-// The constants, the grid and tan along the grid.
+// The constants, the grid, tan along the grid, and what stands outside it.
+use crate::functions;
+use crate::text;
 use cases::digest::with;
 use vectors::bits::bits_of;
-use vectors::bits::of_bits;
+use vectors::constants::BH_RADIAL_FACTOR_THRESHOLD;
+use vectors::constants::BH_RADIAL_FACTOR_TRACKING;
+use vectors::constants::BH_SLOWDOWN_FACTOR;
+use vectors::constants::COURANT_NUMBER;
+use vectors::constants::DISSIPATION_FACTOR;
+use vectors::constants::EPS;
+use vectors::constants::INITIAL_WAVE_STEEPNESS;
+use vectors::grid::delta;
+use vectors::grid::length_at_discretization;
+use vectors::grid::point;
 
-pub fn all() {
-    constants();
+const CONSTANTS: [f64; 7] = [
+    BH_RADIAL_FACTOR_TRACKING,
+    BH_RADIAL_FACTOR_THRESHOLD,
+    COURANT_NUMBER,
+    BH_SLOWDOWN_FACTOR,
+    EPS,
+    DISSIPATION_FACTOR,
+    INITIAL_WAVE_STEEPNESS,
+];
+
+pub fn constants() {
+    let table = CONSTANTS;
+    for i in 0..7 {
+        text::print(
+            b"constant BH_RADIAL_FACTOR_TRACKING $\n|constant BH_RADIAL_FACTOR_THRESHOLD $\n|constant COURANT_NUMBER $\n|constant BH_SLOWDOWN_FACTOR $\n|constant EPS $\n|constant DISSIPATION_FACTOR $\n|constant INITIAL_WAVE_STEEPNESS $\n",
+            i as u64,
+            &[bits_of(table[i])],
+        );
+    }
+}
+
+pub fn levels() {
     for level in 5..17 {
-        grid(level);
+        let n = length_at_discretization(level);
+        let l = level as u64;
+        text::print(
+            b"grid level # length #\ngrid level # delta $\ngrid level # points #\ngrid level # tangents #\n",
+            0,
+            &[
+                l,
+                n as u64,
+                l,
+                bits_of(delta(level)),
+                l,
+                along(level, n, functions::IDENTITY),
+                l,
+                along(level, n, functions::TAN_OF_QUARTERS),
+            ],
+        );
     }
 }
 
-fn constants() {
-    constant(
-        b"BH_RADIAL_FACTOR_TRACKING ",
-        vectors::constants::BH_RADIAL_FACTOR_TRACKING,
-    );
-    constant(
-        b"BH_RADIAL_FACTOR_THRESHOLD ",
-        vectors::constants::BH_RADIAL_FACTOR_THRESHOLD,
-    );
-    constant(b"COURANT_NUMBER ", vectors::constants::COURANT_NUMBER);
-    constant(
-        b"BH_SLOWDOWN_FACTOR ",
-        vectors::constants::BH_SLOWDOWN_FACTOR,
-    );
-    constant(b"EPS ", vectors::constants::EPS);
-    constant(
-        b"DISSIPATION_FACTOR ",
-        vectors::constants::DISSIPATION_FACTOR,
-    );
-    constant(
-        b"INITIAL_WAVE_STEEPNESS ",
-        vectors::constants::INITIAL_WAVE_STEEPNESS,
-    );
-}
-
-fn constant(name: &[u8], value: f64) {
-    io::write_all(1, b"constant ");
-    io::write_all(1, name);
-    io::print_hex(1, bits_of(value), 16);
-    io::write_all(1, b"\n");
-}
-
-fn grid(level: u32) {
-    let n = vectors::grid::length_at_discretization(level);
-    count(b"grid", level, n);
-    float(b"grid", level, b" delta ", vectors::grid::delta(level));
-    along(b" points ", level, points(level, n));
-    along(b" tangents ", level, tangents(level, n));
-}
-
-fn along(what: &[u8], level: u32, d: u64) {
-    heading(b"grid", level);
-    io::write_all(1, what);
-    io::print_decimal(1, d);
-    io::write_all(1, b"\n");
-}
-
-// The digest of the first n points.
-fn points(level: u32, n: usize) -> u64 {
+// The digest of a function along the first n points.
+fn along(level: u32, n: usize, function: u32) -> u64 {
     let mut d = 1;
     for i in 0..n {
-        d = with(d, vectors::grid::point(level, i));
+        d = with(d, functions::answer(function, point(level, i)));
     }
     d
 }
 
-// The digest of tan at pi/2, as rounded, times each of the first n points.
-fn tangents(level: u32, n: usize) -> u64 {
-    let mut d = 1;
-    for i in 0..n {
-        let y = of_bits(0x3FF921FB54442D18) * vectors::grid::point(level, i);
-        d = with(d, vectors::tan::tan(y));
-    }
-    d
+pub fn outside(level: u32) {
+    let l = level as u64;
+    text::print(
+        b"outside level # length #\noutside level # delta $\noutside level # point $\n",
+        0,
+        &[
+            l,
+            length_at_discretization(level) as u64,
+            l,
+            bits_of(delta(level)),
+            l,
+            bits_of(point(level, 0)),
+        ],
+    );
 }
 
-pub fn heading(name: &[u8], level: u32) {
-    io::write_all(1, name);
-    io::write_all(1, b" level ");
-    io::print_decimal(1, level as u64);
-}
-
-pub fn count(name: &[u8], level: u32, n: usize) {
-    heading(name, level);
-    io::write_all(1, b" length ");
-    io::print_decimal(1, n as u64);
-    io::write_all(1, b"\n");
-}
-
-pub fn float(name: &[u8], level: u32, what: &[u8], value: f64) {
-    heading(name, level);
-    io::write_all(1, what);
-    io::print_hex(1, bits_of(value), 16);
-    io::write_all(1, b"\n");
+// The point after the last.
+pub fn beyond(level: u32) {
+    let after = point(level, length_at_discretization(level));
+    text::print(
+        b"beyond level # point $\n",
+        0,
+        &[level as u64, bits_of(after)],
+    );
 }

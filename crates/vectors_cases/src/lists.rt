@@ -1,89 +1,88 @@
-// The minimum, and the first index at or below a bound.
-use crate::stencils::heading;
+// The minimum of a list, and the first index at or below a bound: of a vector, and of short lists.
+use crate::memories::least;
+use crate::text;
+use cases::arguments;
 use vectors::bits::bits_of;
 use vectors::bits::of_bits;
 use vectors::field_vector::Position;
 
-const BOUNDS: [u64; 7] = [
-    0x0000000000000000,
-    0x8000000000000000,
-    0xBFE0000000000000,
-    0x0000000000000001,
-    0x7FF0000000000000,
-    0xFFF0000000000000,
-    0x7FF8000000000000,
+// The bits of the minimum, and the index or NOWHERE.
+pub struct Found {
+    pub minimum: u64,
+    pub index: u64,
+}
+
+// The bits of BH_RADIAL_FACTOR_THRESHOLD.
+pub const THRESHOLD: u64 = 0x3F847AE147AE147B;
+
+const NAN: u64 = 0x7FF8000000000000;
+
+const INFINITY: u64 = 0x7FF0000000000000;
+
+const ONE: u64 = 0x3FF0000000000000;
+
+// The first numbers of three, as bits.
+struct Short {
+    length: usize,
+    numbers: [u64; 3],
+}
+
+#[rattlefmt::skip]
+const SHORTS: [Short; 8] = [
+    Short { length: 2, numbers: [0, 0x8000000000000000, 0] },
+    Short { length: 2, numbers: [0x8000000000000000, 0, 0] },
+    Short { length: 1, numbers: [NAN, 0, 0] },
+    Short { length: 2, numbers: [NAN, ONE, 0] },
+    Short { length: 2, numbers: [INFINITY, NAN, 0] },
+    Short { length: 2, numbers: [INFINITY, 0xFFF0000000000000, 0] },
+    Short { length: 3, numbers: [ONE, THRESHOLD, 0] },
+    Short { length: 3, numbers: [ONE, 0x3F847AE147AE147C, 0x3F847AE147AE147A] },
 ];
 
-pub fn print(level: u32, kind: u32, values: &[f64]) {
-    least(level, kind, values);
-    threshold(level, kind, values);
-    bounds(level, kind, values);
-}
-
-fn least(level: u32, kind: u32, values: &[f64]) {
-    heading(b"min", level, kind);
-    io::write_all(1, b" ");
-    io::print_hex(1, bits_of(vectors::field_vector::min(values)), 16);
-    io::write_all(1, b"\n");
-}
-
-fn threshold(level: u32, kind: u32, values: &[f64]) {
-    heading(b"threshold", level, kind);
-    index(vectors::field_vector::position_at_or_below(
-        values,
-        vectors::constants::BH_RADIAL_FACTOR_THRESHOLD,
-    ));
-}
-
-fn bounds(level: u32, kind: u32, values: &[f64]) {
-    let table = BOUNDS;
-    for i in 0..7 {
-        bound(level, kind, values, table[i]);
-    }
-}
-
-fn bound(level: u32, kind: u32, values: &[f64], b: u64) {
-    io::write_all(1, b"bound ");
-    io::print_hex(1, b, 16);
-    heading(b"", level, kind);
-    index(vectors::field_vector::position_at_or_below(values, of_bits(b)));
-}
-
-fn index(at: Position) {
-    match at {
-        Position::At(i) => {
-            io::write_all(1, b" ");
-            io::print_decimal(1, i as u64);
-        }
-        Position::Nowhere => {
-            io::write_all(1, b" none");
-        }
-    }
-    io::write_all(1, b"\n");
-}
-
 pub fn shorts() {
-    let nan = 0.0 / 0.0;
-    let infinity = 1.0 / 0.0;
-    short(&[0.0, -0.0]);
-    short(&[-0.0, 0.0]);
-    short(&[nan]);
-    short(&[nan, 1.0]);
-    short(&[infinity, nan]);
-    short(&[infinity, -infinity]);
-    short(&[1.0, 0.01, 0.0]);
-    short(
-        &[
-            1.0,
-            of_bits(0x3F847AE147AE147C),
-            of_bits(0x3F847AE147AE147A),
-        ],
+    for i in 0..8 {
+        print(short_at(i));
+    }
+}
+
+fn short_at(i: usize) -> Short {
+    let table = SHORTS;
+    table[i % 8]
+}
+
+fn print(short: Short) {
+    let length = least(short.length, 3);
+    let numbers = short.numbers;
+    let list = [
+        of_bits(numbers[0]),
+        of_bits(numbers[1]),
+        of_bits(numbers[2]),
+    ];
+    let found = find(THRESHOLD, &list[0..length]);
+    text::print(
+        b"short min $\nshort threshold ?\n",
+        0,
+        &[found.minimum, found.index],
     );
 }
 
-fn short(values: &[f64]) {
-    io::write_all(1, b"short min ");
-    io::print_hex(1, bits_of(vectors::field_vector::min(values)), 16);
-    io::write_all(1, b"\nshort threshold");
-    index(vectors::field_vector::position_at_or_below(values, 0.01));
+pub fn on_vector(level: u32, kind: u32, bound: u64) -> Found {
+    let n = least(vectors::grid::length_at_discretization(level), 257);
+    let mut values = [0.0; 257];
+    arguments::vector(level, kind, &mut values);
+    find(bound, &values[0..n])
+}
+
+fn find(bound: u64, values: &[f64]) -> Found {
+    Found {
+        minimum: bits_of(vectors::field_vector::min(values)),
+        index: index(vectors::field_vector::position_at_or_below(values, of_bits(bound))),
+    }
+}
+
+fn index(at: Position) -> u64 {
+    match at {
+        Position::At(i) => i as u64,
+        Position::Nowhere => text::NOWHERE,
+    }
 }

@@ -1,17 +1,23 @@
 // Runs the cases of the crate vectors and prints what `oracle vectors` prints for them.
-mod exp;
 mod functions;
 mod grid;
 mod lists;
+mod memories;
 mod on_vector;
 mod refusals;
-mod stencils;
+mod text;
 
 fn main() {
-    grid::all();
-    functions::all();
-    exp::all();
-    on_vector::all();
+    grid::constants();
+    grid::levels();
+    functions::rows();
+    on_vector::mapped();
+    on_vector::lines();
     lists::shorts();
-    refusals::all();
+    refusals::cases();
+    grid::outside(4);
+    grid::outside(17);
+    grid::outside(261);
+    grid::beyond(5);
+    grid::beyond(16);
 }

@@ -44,9 +44,9 @@ pub fn state(time: f64, broken: bool, vectors: &[f64]) {
         &vectors[mass..radial_factor],
     );
     if broken {
-        say(b" nan yes\n", [0; 7]);
+        io::write_all(1, b" nan yes\n");
     } else {
-        say(b" nan no\n", [0; 7]);
+        io::write_all(1, b" nan no\n");
     }
 }
 
@@ -71,6 +71,8 @@ pub fn ends(radial_factor: &[f64], mass: &[f64]) {
 pub fn formed(hole: BlackHole) {
     match hole {
         BlackHole::Formed(m) => say(b" mass $", [bits_of(m), 0, 0, 0, 0, 0, 0]),
-        BlackHole::Absent => say(b" mass none", [0; 7]),
+        BlackHole::Absent => {
+            io::write_all(1, b" mass none");
+        }
     }
 }

@@ -9,5 +9,6 @@ mod runs;
 fn main() {
     runs::all();
     diagnostics::all();
+    diagnostics::short();
     refusals::all();
 }

@@ -1,5 +1,5 @@
 // How much of a memory a case uses, and the clock's base.
-ghost use Prim.Native.Nat.{_≤_};
+ghost use Prim.Native.Nat.{_+_, _≤_};
 use vectors::grid::length_at_discretization;
 
 // n, or the most that there may be.
@@ -12,10 +12,11 @@ pub fn at_most(most: usize, n: usize) -> usize
     n
 }
 
-pub fn points(most: usize, level: u32) -> usize
-    ensures { λ r. ⌜ r ≤ most ⌝ }
+// Where the state stands in a work memory of this length: at 8n, before 16n.
+pub fn first(level: u32, work: usize) -> usize
+    ensures { λ r. ⌜ r + r ≤ work ⌝ }
 {
-    at_most(most, length_at_discretization(level))
+    8 * at_most(work / 40, length_at_discretization(level))
 }
 
 // The clock's base: h × 0.95.

@@ -12,25 +12,31 @@ use physics::state::store;
 use physics::state_builder::build_initial_state;
 use vectors::bits::bits_of;
 use vectors::bits::of_bits;
+use vectors::constants::BH_SLOWDOWN_FACTOR;
+use vectors::grid::length_at_discretization;
 
-// As in oracle/physics/runs.rs and oracle/physics/forged.rs.
+// As in oracle/physics/runs.rs: 13 amplitudes, then the four of the levels from 10 on.
 #[rattlefmt::skip]
-const AMPLITUDES: [f64; 13] = [0.0, 0.5, 10.0, 25.0, 26.0, 35.5, 60.0, 163.1, -20.0, 1e-200, 668.0, 672.0, 700.0];
+const AMPLITUDES: [f64; 17] = [
+    0.0, 0.5, 10.0, 25.0, 26.0, 35.5, 60.0, 163.1, -20.0, 1e-200, 668.0, 672.0, 700.0,
+    10.0, 35.5, -20.0, 700.0,
+];
 
-const FEW: [f64; 4] = [10.0, 35.5, -20.0, 700.0];
+const SPEEDS: [f64; 2] = [1.0, BH_SLOWDOWN_FACTOR];
 
-const SPEEDS: [f64; 2] = [1.0, 0.25];
-
+// Times, and steps over the base, as in oracle/physics/forged.rs. The last are those of the cases by seeds.
 #[rattlefmt::skip]
-const TIMES: [u64; 8] = [
+const TIMES: [u64; 9] = [
     0x0000000000000000, 0x8000000000000000, 0x400D99999999999A, 0x400D99999999999A,
     0x400D99999999999A, 0x400D99999999999A, 0x7FF8000000000000, 0x7FF0000000000000,
+    0x400D99999999999A,
 ];
 
 #[rattlefmt::skip]
-const FACTORS: [u64; 8] = [
+const FACTORS: [u64; 9] = [
     0x0000000000000000, 0x8000000000000000, 0xBFF0000000000000, 0x0000000000000001,
     0x7FF0000000000000, 0x7FF8000000000000, 0x3FF0000000000000, 0x3FF0000000000000,
+    0x3FF0000000000000,
 ];
 
 // Kinds 0 and 1 start from the initial state, at the base's speed and slowed; kinds 2 and 3 take one step from a forged
@@ -51,51 +57,57 @@ pub fn all() {
     let mut state = [0.0; 65544];
     let mut work = [0.0; 327720];
     for i in 0..235 {
-        run(case_at(i), &mut state, &mut work);
+        lend(case_at(i), &mut state, &mut work);
     }
 }
 
+// As much of the memories as the level wants.
+fn lend(case: Case, state: &mut [f64], work: &mut [f64])
+    requires { ⌜ (65544 ≤ length (now state)) × (327720 ≤ length (now work)) ⌝ }
+{
+    let n = memories::at_most(8193, length_at_discretization(case.level));
+    let of_state = 8 * n;
+    let of_work = 40 * n;
+    run(case, &mut state[0..of_state], &mut work[0..of_work]);
+}
+
+// Levels 5 to 9 with each amplitude at both speeds, and 10 to 13 with four amplitudes; levels 5 to 7 with three seeds and
+// each vector replaced, or none, which is vector 8; level 5 at each time.
 fn case_at(i: usize) -> Case
     requires { ⌜ i < 235 ⌝ }
 {
     if i < 130 {
-        return initial(
-            i % 2,
-            5 + i / 26,
-            AMPLITUDES[i / 2 % 13],
-            SPEEDS[i % 2],
-            100,
-        );
+        return initial(i % 2, 5 + i / 26, i / 2 % 13, 100);
     }
     if i < 146 {
-        let j = i - 130;
-        return initial(0, 10 + j / 4, FEW[j % 4], 1.0, 2);
+        return initial(0, 10 + (i - 130) / 4, 13 + (i - 130) % 4, 2);
     }
     if i < 227 {
         let j = i - 146;
-        return forged(2, 5 + j / 27, 1 + j / 9 % 3, j % 9, 3.7, 1.0);
+        return forged(2, 5 + j / 27, 1 + j / 9 % 3, j % 9, 8);
     }
-    let j = i - 227;
-    forged(3, 5, 1, 8, of_bits(TIMES[j]), of_bits(FACTORS[j]))
+    forged(3, 5, 1, 8, i - 227)
 }
 
-fn initial(kind: usize, level: usize, amplitude: f64, factor: f64, last: u32) -> Case
-    requires { ⌜ level < 17 ⌝ }
+// From the initial state with the amplitude at a place of the table.
+fn initial(kind: usize, level: usize, at: usize, last: u32) -> Case
+    requires { ⌜ (kind < 2) × (level < 17) × (at < 17) ⌝ }
 {
     Case {
         kind: kind,
         level: level as u32,
-        amplitude: amplitude,
+        amplitude: AMPLITUDES[at],
         seed: 0,
         replaced: 0,
         time: 0.0,
-        factor: factor,
+        factor: SPEEDS[kind],
         last: last,
     }
 }
 
-fn forged(kind: usize, level: usize, seed: usize, replaced: usize, time: f64, factor: f64) -> Case
-    requires { ⌜ level < 17 ⌝ }
+// From a forged state, at the time and by the step at a place of the tables.
+fn forged(kind: usize, level: usize, seed: usize, replaced: usize, at: usize) -> Case
+    requires { ⌜ (level < 17) × (at < 9) ⌝ }
 {
     Case {
         kind: kind,
@@ -103,39 +115,38 @@ fn forged(kind: usize, level: usize, seed: usize, replaced: usize, time: f64, fa
         amplitude: 0.0,
         seed: seed as u64,
         replaced: replaced,
-        time: time,
-        factor: factor,
+        time: of_bits(TIMES[at]),
+        factor: of_bits(FACTORS[at]),
         last: 1,
     }
 }
 
-fn run(case: Case, state: &mut [f64], work: &mut [f64])
-    requires { ⌜ 327720 ≤ length (now work) ⌝ }
-{
-    let n = memories::points(8193, case.level);
-    let from = 8 * n;
-    let to = 16 * n;
-    let delta = memories::base(case.level) * case.factor;
+fn run(case: Case, state: &mut [f64], work: &mut [f64]) {
+    let from = memories::first(case.level, work.len());
+    let to = from + from;
+    let delta = delta(case);
     let mut time = case.time;
     let mut steps = 0;
-    let mut left = begin(case, n, work);
-    while 0 < left {
+    let mut last = begin(case, from, to, work);
+    while steps < last {
         store(case.level, &work[from..to], state);
         time = time_after(rk4_step(case.level, time, delta, state, work));
         steps += 1;
-        left = arrive(case, steps, left - 1, time, &work[from..to]);
+        last = until(last, arrive(case, steps, time, &work[from..to]));
     }
 }
 
-// How many steps are left to take from the state that this leaves in work memory.
-fn begin(case: Case, n: usize, work: &mut [f64]) -> u32
-    requires { ⌜ (n ≤ 8193) × (327720 ≤ length (now work)) ⌝ }
+fn delta(case: Case) -> f64 {
+    memories::base(case.level) * case.factor
+}
+
+// The number of the run's last step, from the state that this leaves in work memory.
+fn begin(case: Case, from: usize, to: usize, work: &mut [f64]) -> u32
+    requires { ⌜ (from ≤ to) × (to ≤ length (now work)) ⌝ }
 {
-    let from = 8 * n;
-    let to = 16 * n;
     if case.kind < 2 {
         build_initial_state(case.level, case.amplitude, work);
-        return arrive(case, 0, case.last, 0.0, &work[from..to]);
+        return until(case.last, arrive(case, 0, 0.0, &work[from..to]));
     }
     forged::forge(case.seed, case.replaced, &mut work[from..to]);
     case.last
@@ -148,19 +159,24 @@ fn time_after(stepped: Stepped) -> f64 {
     }
 }
 
-// Prints a state where one is due; how many steps are left after it.
-fn arrive(case: Case, steps: u32, left: u32, time: f64, vectors: &[f64]) -> u32
-    ensures { λ r. ⌜ r ≤ left ⌝ }
+// The number of the last step, 0 if the run has ended.
+fn until(last: u32, ended: bool) -> u32
+    ensures { λ r. ⌜ r ≤ last ⌝ }
 {
+    if ended {
+        return 0;
+    }
+    last
+}
+
+// Prints a state where one is due; whether it ends the run.
+fn arrive(case: Case, steps: u32, time: f64, vectors: &[f64]) -> bool {
     let broken = has_nan(time, vectors);
     if is_printed(steps, broken) {
         heading(case, steps);
         lines::state(time, broken, vectors);
     }
-    if broken {
-        return 0;
-    }
-    left
+    broken
 }
 
 fn is_printed(steps: u32, broken: bool) -> bool {
@@ -173,15 +189,15 @@ fn is_printed(steps: u32, broken: bool) -> bool {
 fn heading(case: Case, steps: u32) {
     let kind = case.kind;
     let level = case.level as u64;
-    let first = bits_of(case.amplitude);
+    let amplitude = bits_of(case.amplitude);
     match kind {
         0 => lines::say(
             b"run level # amplitude $ base steps #",
-            [level, first, steps as u64, 0, 0, 0, 0],
+            [level, amplitude, steps as u64, 0, 0, 0, 0],
         ),
         1 => lines::say(
             b"run level # amplitude $ slowed steps #",
-            [level, first, steps as u64, 0, 0, 0, 0],
+            [level, amplitude, steps as u64, 0, 0, 0, 0],
         ),
         2 => lines::say(
             b"forged level # seed # replaced #",

@@ -20,35 +20,19 @@ pub const IDENTITY: u32 = 5;
 // tan at pi/2, as rounded, times the argument.
 pub const TAN_OF_QUARTERS: u32 = 6;
 
-// The arguments of a row: below SPECIALS a range of cases::arguments.
+// The ranges of arguments below this are those of cases::arguments; this is SPECIAL, and the next TIES.
 const SPECIALS: u32 = 5;
 
-const TIES: u32 = 6;
-
-struct Row {
-    function: u32,
-    range: u32,
-    count: u64,
-}
-
-// In the order of the lines that `item` prints.
+// The function, the range of its arguments and how many lines, in the order of the lines in `item`.
 #[rattlefmt::skip]
-const ROWS: [Row; 15] = [
-    Row { function: EXP, range: SPECIALS, count: 36 },
-    Row { function: EXP, range: 0, count: 16 },
-    Row { function: TAN, range: SPECIALS, count: 36 },
-    Row { function: TAN, range: 0, count: 4 },
-    Row { function: SQUARE, range: SPECIALS, count: 36 },
-    Row { function: SQUARE, range: 0, count: 4 },
-    Row { function: FOURTH, range: SPECIALS, count: 36 },
-    Row { function: FOURTH, range: 0, count: 4 },
-    Row { function: RECIPROCAL, range: SPECIALS, count: 36 },
-    Row { function: RECIPROCAL, range: 0, count: 4 },
-    Row { function: EXP, range: 1, count: 16 },
-    Row { function: EXP, range: 2, count: 16 },
-    Row { function: TAN, range: 3, count: 4 },
-    Row { function: TAN, range: 4, count: 4 },
-    Row { function: EXP, range: TIES, count: 120 },
+const ROWS: [u32; 15] = [
+    0_5_036, 0_0_016,
+    1_5_036, 1_0_004,
+    2_5_036, 2_0_004,
+    3_5_036, 3_0_004,
+    4_5_036, 4_0_004,
+    0_1_016, 0_2_016, 1_3_004, 1_4_004,
+    0_6_120,
 ];
 
 // As in oracle/arguments.rs.
@@ -64,7 +48,7 @@ const SPECIAL: [u64; 36] = [
 
 // Arguments whose rounded product with 256 × a lies half way between two whole numbers; oracle/vectors/ties.rs finds them.
 #[rattlefmt::skip]
-const TIE: [u64; 40] = [
+const TIES: [u64; 40] = [
     0x3F562E42FEFA39EF, 0xBF562E42FEFA39EF, 0x3F7BB9D3BEB8C86B, 0xBF7BB9D3BEB8C86B, 0x3F88F40B5ED9812D, 0xBF88F40B5ED9812D,
     0x3FD6447141F93429, 0xBFD6447141F93429, 0x3FE6232BDD7ABCD2, 0xBFE6232BDD7ABCD2, 0x3FE6395A2079B70C, 0xBFE6395A2079B70C,
     0x3FF09D26AE7BECE5, 0xBFF09D26AE7BECE5, 0x3FF628B76E3A7B61, 0xBFF628B76E3A7B61, 0x4005ABF335603BDB, 0xC005ABF335603BDB,
@@ -78,61 +62,49 @@ const TIE: [u64; 40] = [
 const BESIDE: [u64; 3] = [0, 0xFFFFFFFFFFFFFFFF, 1];
 
 pub fn rows() {
-    for i in 0..15 {
-        items(i, row_at(i));
-    }
-}
-
-fn row_at(i: u64) -> Row {
     let table = ROWS;
-    table[(i % 15) as usize]
-}
-
-fn items(i: u64, row: Row) {
-    let count = row.count;
-    for k in 0..count {
-        item(i, row, k);
+    for i in 0..15 {
+        items(i as u64, table[i]);
     }
 }
 
-fn item(i: u64, row: Row, k: u64) {
-    let pair = pair_of(row, k);
+fn items(i: u64, row: u32) {
+    let count = row % 1000;
+    let range = row / 1000 % 10;
+    for k in 0..count {
+        let argument = argument_at(range, k as u64);
+        item(i, argument, answer_at(row / 10000, range, argument));
+    }
+}
+
+fn item(i: u64, argument: u64, answer: u64) {
     text::print(
         b"exp special $ $\n|exp patterns # #\n|tan special $ $\n|tan patterns # #\n|square special $ $\n|square patterns # #\n|fourth special $ $\n|fourth patterns # #\n|reciprocal special $ $\n|reciprocal patterns # #\n|exp whole range # #\n|exp near zero # #\n|tan quarter # #\n|tan beyond # #\n|exp tie $ $\n",
         i,
-        &[pair.argument, pair.answer],
+        &[argument, answer],
     );
 }
 
-// An argument and the answer in bits, or a seed and the digest of its answers.
-struct Pair {
-    argument: u64,
-    answer: u64,
-}
-
-fn pair_of(row: Row, k: u64) -> Pair {
-    if row.range < SPECIALS {
-        let seed = std::num::wrapping_add_u64(k, 1);
-        return Pair {
-            argument: seed,
-            answer: chunk(row.function, row.range, seed),
-        };
+// The bits of an argument, or the seed of a chunk.
+fn argument_at(range: u32, k: u64) -> u64 {
+    if range < SPECIALS {
+        return std::num::wrapping_add_u64(k, 1);
     }
-    let b = bits(row.range, k);
-    Pair {
-        argument: b,
-        answer: bits_of(answer(row.function, of_bits(b))),
-    }
-}
-
-fn bits(range: u32, k: u64) -> u64 {
-    let special = SPECIAL;
-    let tie = TIE;
-    let beside = BESIDE;
     if range == SPECIALS {
+        let special = SPECIAL;
         return special[(k % 36) as usize];
     }
-    std::num::wrapping_add_u64(tie[(k / 3 % 40) as usize], beside[(k % 3) as usize])
+    let ties = TIES;
+    let beside = BESIDE;
+    std::num::wrapping_add_u64(ties[(k / 3 % 40) as usize], beside[(k % 3) as usize])
+}
+
+// The bits of the answer, or the digest of the answers.
+fn answer_at(function: u32, range: u32, argument: u64) -> u64 {
+    if range < SPECIALS {
+        return chunk(function, range, argument);
+    }
+    bits_of(answer(function, of_bits(argument)))
 }
 
 // The digest of a function over 256 arguments.

@@ -27,32 +27,57 @@ const CONSTANTS: [f64; 7] = [
 pub fn constants() {
     let table = CONSTANTS;
     for i in 0..7 {
-        text::print(
-            b"constant BH_RADIAL_FACTOR_TRACKING $\n|constant BH_RADIAL_FACTOR_THRESHOLD $\n|constant COURANT_NUMBER $\n|constant BH_SLOWDOWN_FACTOR $\n|constant EPS $\n|constant DISSIPATION_FACTOR $\n|constant INITIAL_WAVE_STEEPNESS $\n",
-            i as u64,
-            &[bits_of(table[i])],
-        );
+        constant(i as u64, table[i]);
     }
 }
 
+fn constant(name: u64, value: f64) {
+    text::print(
+        b"constant BH_RADIAL_FACTOR_TRACKING $\n|constant BH_RADIAL_FACTOR_THRESHOLD $\n|constant COURANT_NUMBER $\n|constant BH_SLOWDOWN_FACTOR $\n|constant EPS $\n|constant DISSIPATION_FACTOR $\n|constant INITIAL_WAVE_STEEPNESS $\n",
+        name,
+        &[bits_of(value)],
+    );
+}
+
 pub fn levels() {
-    for level in 5..17 {
-        let n = length_at_discretization(level);
-        let l = level as u64;
-        text::print(
-            b"grid level # length #\ngrid level # delta $\ngrid level # points #\ngrid level # tangents #\n",
-            0,
-            &[
-                l,
-                n as u64,
-                l,
-                bits_of(delta(level)),
-                l,
-                along(level, n, functions::IDENTITY),
-                l,
-                along(level, n, functions::TAN_OF_QUARTERS),
-            ],
-        );
+    for k in 0..48 {
+        line(k % 4, 5 + k / 4);
+    }
+}
+
+// A line's number and three digits for its level: what stands outside the grid, then the point after the last.
+#[rattlefmt::skip]
+const OUTSIDE: [u32; 11] = [
+    4_004, 5_004, 6_004, 4_017, 5_017, 6_017, 4_261, 5_261, 6_261,
+    7_005, 7_016,
+];
+
+pub fn outside() {
+    let table = OUTSIDE;
+    for i in 0..11 {
+        let row = table[i];
+        line(row / 1000, row % 1000);
+    }
+}
+
+fn line(what: u32, level: u32) {
+    text::print(
+        b"grid level # length #\n|grid level # delta $\n|grid level # points #\n|grid level # tangents #\n|outside level # length #\n|outside level # delta $\n|outside level # point $\n|beyond level # point $\n",
+        what as u64,
+        &[level as u64, number(what, level)],
+    );
+}
+
+// The number that a line prints.
+fn number(what: u32, level: u32) -> u64 {
+    let n = length_at_discretization(level);
+    match what {
+        0 | 4 => n as u64,
+        1 | 5 => bits_of(delta(level)),
+        2 => along(level, n, functions::IDENTITY),
+        3 => along(level, n, functions::TAN_OF_QUARTERS),
+        6 => bits_of(point(level, 0)),
+        _ => bits_of(point(level, n)),
     }
 }
 
@@ -63,30 +88,4 @@ fn along(level: u32, n: usize, function: u32) -> u64 {
         d = with(d, functions::answer(function, point(level, i)));
     }
     d
-}
-
-pub fn outside(level: u32) {
-    let l = level as u64;
-    text::print(
-        b"outside level # length #\noutside level # delta $\noutside level # point $\n",
-        0,
-        &[
-            l,
-            length_at_discretization(level) as u64,
-            l,
-            bits_of(delta(level)),
-            l,
-            bits_of(point(level, 0)),
-        ],
-    );
-}
-
-// The point after the last.
-pub fn beyond(level: u32) {
-    let after = point(level, length_at_discretization(level));
-    text::print(
-        b"beyond level # point $\n",
-        0,
-        &[level as u64, bits_of(after)],
-    );
 }

@@ -21,49 +21,46 @@ const INFINITY: u64 = 0x7FF0000000000000;
 
 const ONE: u64 = 0x3FF0000000000000;
 
-// The first numbers of three, as bits.
-struct Short {
-    length: usize,
-    numbers: [u64; 3],
-}
-
+// The numbers of the short lists, as bits, three places for each list.
 #[rattlefmt::skip]
-const SHORTS: [Short; 8] = [
-    Short { length: 2, numbers: [0, 0x8000000000000000, 0] },
-    Short { length: 2, numbers: [0x8000000000000000, 0, 0] },
-    Short { length: 1, numbers: [NAN, 0, 0] },
-    Short { length: 2, numbers: [NAN, ONE, 0] },
-    Short { length: 2, numbers: [INFINITY, NAN, 0] },
-    Short { length: 2, numbers: [INFINITY, 0xFFF0000000000000, 0] },
-    Short { length: 3, numbers: [ONE, THRESHOLD, 0] },
-    Short { length: 3, numbers: [ONE, 0x3F847AE147AE147C, 0x3F847AE147AE147A] },
+const SHORTS: [u64; 24] = [
+    0, 0x8000000000000000, 0,
+    0x8000000000000000, 0, 0,
+    NAN, 0, 0,
+    NAN, ONE, 0,
+    INFINITY, NAN, 0,
+    INFINITY, 0xFFF0000000000000, 0,
+    ONE, THRESHOLD, 0,
+    ONE, 0x3F847AE147AE147C, 0x3F847AE147AE147A,
 ];
 
+const LENGTHS: [usize; 8] = [2, 2, 1, 2, 2, 2, 3, 3];
+
 pub fn shorts() {
+    let table = LENGTHS;
     for i in 0..8 {
-        print(short_at(i));
+        print(find_short(i, table[i]));
     }
 }
 
-fn short_at(i: usize) -> Short {
-    let table = SHORTS;
-    table[i % 8]
-}
-
-fn print(short: Short) {
-    let length = least(short.length, 3);
-    let numbers = short.numbers;
-    let list = [
-        of_bits(numbers[0]),
-        of_bits(numbers[1]),
-        of_bits(numbers[2]),
-    ];
-    let found = find(THRESHOLD, &list[0..length]);
+fn print(found: Found) {
     text::print(
         b"short min $\nshort threshold ?\n",
         0,
         &[found.minimum, found.index],
     );
+}
+
+fn find_short(i: usize, length: usize) -> Found {
+    let at = i % 8 * 3;
+    let end = least(length, 3);
+    let list = [short_at(at), short_at(at + 1), short_at(at + 2)];
+    find(THRESHOLD, &list[0..end])
+}
+
+fn short_at(place: usize) -> f64 {
+    let table = SHORTS;
+    of_bits(table[place % 24])
 }
 
 pub fn on_vector(level: u32, kind: u32, bound: u64) -> Found {

@@ -15,9 +15,5 @@ fn main() {
     on_vector::lines();
     lists::shorts();
     refusals::cases();
-    grid::outside(4);
-    grid::outside(17);
-    grid::outside(261);
-    grid::beyond(5);
-    grid::beyond(16);
+    grid::outside();
 }

@@ -49,26 +49,28 @@ pub fn run(case: Case) -> Left {
     fill(case.level, case.kind, &mut vector);
     arguments::list(5, 9, &mut half);
     arguments::list(5, 8, &mut out);
-    run_in(case, &mut vector, &mut half, &mut out)
+    let answer = call_on(case, &mut vector, &mut half, &mut out);
+    let size = case.size;
+    Left {
+        answer: number(answer),
+        vector: of_first(size, &vector),
+        half: of_first(size, &half),
+        out: of_first(size, &out),
+    }
 }
 
-fn run_in(case: Case, vector: &mut [f64], half: &mut [f64], out: &mut [f64]) -> Left {
+// The call on the parts that it gets.
+fn call_on(case: Case, vector: &mut [f64], half: &mut [f64], out: &mut [f64]) -> Answer {
     let length = least(case.length, vector.len());
     let middle = least(case.half, half.len());
     let room = least(case.room, out.len());
-    let answer = call(
+    call(
         case.operation,
         case.level,
         &mut vector[0..length],
         &mut half[0..middle],
         &mut out[0..room],
-    );
-    Left {
-        answer: number(answer),
-        vector: of_first(case.size, vector),
-        half: of_first(case.size, half),
-        out: of_first(case.size, out),
-    }
+    )
 }
 
 // The digest of the first numbers of a memory.
@@ -109,13 +111,11 @@ fn call(
         DIFF3 => vectors::diff::diff3_unnormalized(level, vector, out),
         DISSIPATION => vectors::diff::dissipation(level, vector, half, out),
         NEUMANN => vectors::diff::set_left_neumann_bc(vector),
-        _ => exp_all(vector),
+        _ => {
+            vectors::exp::exp_all(vector);
+            Answer::Done
+        }
     }
-}
-
-fn exp_all(values: &mut [f64]) -> Answer {
-    vectors::exp::exp_all(values);
-    Answer::Done
 }
 
 // 01's number of a refusal, 0 where there is none.

@@ -2,12 +2,8 @@
 use crate::lists;
 use crate::memories;
 use crate::memories::Case;
-use crate::memories::DIFF;
-use crate::memories::DIFF2;
-use crate::memories::DIFF3;
-use crate::memories::DISSIPATION;
 use crate::memories::EXP_ALL;
-use crate::memories::NEUMANN;
+use crate::memories::Left;
 use crate::text;
 
 const LENGTHS: [usize; 6] = [0, 1, 2, 33, 129, 257];
@@ -33,97 +29,77 @@ fn map(length: usize) {
     text::print(b"exp all # #\n", 0, &[length as u64, left.vector]);
 }
 
-struct Line {
-    operation: u32,
-    bound: u64,
-    // Which number is printed, and how: in decimal, in hexadecimal, or as an index.
-    shown: usize,
-    form: u64,
-}
-
-const OUT: usize = 0;
-
-const HALF: usize = 1;
-
-const VECTOR: usize = 2;
-
-const MINIMUM: usize = 3;
-
-const INDEX: usize = 4;
-
-// In the order of the names that `print` has.
+// The operation and the number that is printed, in the order of the names that `print` has.
 #[rattlefmt::skip]
-const LINES: [Line; 15] = [
-    Line { operation: DIFF, bound: 0, shown: OUT, form: 0 },
-    Line { operation: DIFF2, bound: 0, shown: OUT, form: 0 },
-    Line { operation: DIFF3, bound: 0, shown: OUT, form: 0 },
-    Line { operation: DISSIPATION, bound: 0, shown: OUT, form: 0 },
-    Line { operation: DISSIPATION, bound: 0, shown: HALF, form: 0 },
-    Line { operation: DIFF, bound: 0, shown: MINIMUM, form: 1 },
-    Line { operation: DIFF, bound: lists::THRESHOLD, shown: INDEX, form: 2 },
-    Line { operation: DIFF, bound: 0x0000000000000000, shown: INDEX, form: 2 },
-    Line { operation: DIFF, bound: 0x8000000000000000, shown: INDEX, form: 2 },
-    Line { operation: DIFF, bound: 0xBFE0000000000000, shown: INDEX, form: 2 },
-    Line { operation: DIFF, bound: 0x0000000000000001, shown: INDEX, form: 2 },
-    Line { operation: DIFF, bound: 0x7FF0000000000000, shown: INDEX, form: 2 },
-    Line { operation: DIFF, bound: 0xFFF0000000000000, shown: INDEX, form: 2 },
-    Line { operation: DIFF, bound: 0x7FF8000000000000, shown: INDEX, form: 2 },
-    Line { operation: NEUMANN, bound: 0, shown: VECTOR, form: 0 },
+const LINES: [u32; 15] = [
+    0_0, 1_0, 2_0, 3_0, 3_1,
+    0_3, 0_4, 0_4, 0_4, 0_4, 0_4, 0_4, 0_4, 0_4,
+    4_2,
 ];
 
+// The bounds of the lines that print an index.
+#[rattlefmt::skip]
+const BOUNDS: [u64; 15] = [
+    0, 0, 0, 0, 0,
+    0, lists::THRESHOLD, 0x0000000000000000, 0x8000000000000000, 0xBFE0000000000000,
+    0x0000000000000001, 0x7FF0000000000000, 0xFFF0000000000000, 0x7FF8000000000000,
+    0,
+];
+
+// Fifteen lines for each of 77 vectors.
 pub fn lines() {
+    let lines = LINES;
+    let bounds = BOUNDS;
     for k in 0..1155 {
-        print(vector_at(k / 15), k % 15, line_at(k));
+        let i = k % 15;
+        print(i as u64, vector_at((k / 15) as u32), lines[i], bounds[i]);
     }
 }
 
-fn line_at(k: u32) -> Line {
-    let table = LINES;
-    table[(k % 15) as usize]
-}
-
-struct Vector {
-    level: u32,
-    kind: u32,
-}
-
-fn vector_at(k: u32) -> Vector {
+// The level and two digits for the kind: eleven kinds at levels 5 to 8, then the spikes at level 5.
+fn vector_at(k: u32) -> u32 {
     if k < 44 {
-        return Vector {
-            level: 5 + k / 11,
-            kind: k % 11,
-        };
+        return 500 + k / 11 * 100 + k % 11;
     }
-    Vector {
-        level: 5,
-        kind: k - 28,
-    }
+    516 + (k - 44) % 33
 }
 
-fn print(vector: Vector, k: u32, line: Line) {
-    let level = vector.level;
-    let kind = vector.kind;
+fn print(i: u64, vector: u32, line: u32, bound: u64) {
+    let shown = line % 5;
+    let n = number(line / 10, vector, bound, shown as usize);
+    name(i, bound);
+    text::print(
+        b" level # vector # #\n| level # vector # #\n| level # vector # #\n| level # vector # $\n| level # vector # ?\n",
+        shown as u64,
+        &[(vector / 100) as u64, (vector % 100) as u64, n],
+    );
+}
+
+fn name(i: u64, bound: u64) {
+    text::print(
+        b"diff|diff2|diff3|dissipation|corrected|min|threshold|bound $|bound $|bound $|bound $|bound $|bound $|bound $|neumann",
+        i,
+        &[bound],
+    );
+}
+
+// The digest of out, of half or of the vector after the operation, the minimum, or the index at or below the bound.
+fn number(operation: u32, vector: u32, bound: u64, shown: usize) -> u64 {
+    let left = outcome(operation, vector / 100, vector % 100);
+    let found = lists::on_vector(vector / 100, vector % 100, bound);
+    let numbers = [left.out, left.half, left.vector, found.minimum, found.index];
+    numbers[shown % 5]
+}
+
+fn outcome(operation: u32, level: u32, kind: u32) -> Left {
     let n = vectors::grid::length_at_discretization(level);
-    let left = memories::run(Case {
-        operation: line.operation,
+    memories::run(Case {
+        operation: operation,
         level: level,
         kind: kind,
         size: n,
         length: n,
         half: n,
         room: n,
-    });
-    let found = lists::on_vector(level, kind, line.bound);
-    let numbers = [left.out, left.half, left.vector, found.minimum, found.index];
-    let shown = line.shown;
-    text::print(
-        b"diff|diff2|diff3|dissipation|corrected|min|threshold|bound $|bound $|bound $|bound $|bound $|bound $|bound $|neumann",
-        k as u64,
-        &[line.bound],
-    );
-    text::print(
-        b" level # vector # #\n| level # vector # $\n| level # vector # ?\n",
-        line.form,
-        &[level as u64, kind as u64, numbers[shown % 5]],
-    );
+    })
 }

@@ -1,75 +1,53 @@
 // What the stencils answer where a level or a length is refused, and that memory stays as it was.
 use crate::memories;
 use crate::memories::Case;
+use crate::memories::Left;
 use crate::text;
 
-// The level, and the lengths of the vector, of the half dissipation and of the result.
-struct Row {
-    level: u32,
-    length: usize,
-    half: usize,
-    room: usize,
-}
-
+// The level, and two digits each for the lengths of the vector, of the half dissipation and of the result.
 #[rattlefmt::skip]
-const ROWS: [Row; 17] = [
-    Row { level: 5, length: 33, half: 33, room: 33 },
-    Row { level: 4, length: 17, half: 17, room: 17 },
-    Row { level: 4, length: 33, half: 33, room: 33 },
-    Row { level: 17, length: 33, half: 33, room: 33 },
-    Row { level: 261, length: 33, half: 33, room: 33 },
-    Row { level: 4, length: 32, half: 34, room: 34 },
-    Row { level: 17, length: 34, half: 32, room: 32 },
-    Row { level: 5, length: 32, half: 33, room: 33 },
-    Row { level: 5, length: 34, half: 33, room: 33 },
-    Row { level: 5, length: 33, half: 32, room: 32 },
-    Row { level: 5, length: 33, half: 34, room: 34 },
-    Row { level: 5, length: 32, half: 32, room: 32 },
-    Row { level: 5, length: 34, half: 34, room: 34 },
-    Row { level: 6, length: 33, half: 33, room: 33 },
-    Row { level: 5, length: 33, half: 32, room: 33 },
-    Row { level: 5, length: 4, half: 33, room: 33 },
-    Row { level: 5, length: 5, half: 33, room: 33 },
+const ROWS: [u32; 17] = [
+    5_33_33_33, 4_17_17_17, 4_33_33_33, 17_33_33_33, 261_33_33_33, 4_32_34_34, 17_34_32_32,
+    5_32_33_33, 5_34_33_33, 5_33_32_32, 5_33_34_34, 5_32_32_32, 5_34_34_34, 6_33_33_33,
+    5_33_32_33, 5_04_33_33, 5_05_33_33,
 ];
 
+// Each of the five stencils on each row.
 pub fn cases() {
+    let table = ROWS;
     for k in 0..85 {
-        refusal(k / 17, row_at(k));
+        let operation = (k / 17) as u32;
+        let row = table[k % 17];
+        print(operation, row, outcome(operation, row));
     }
 }
 
-fn row_at(k: u32) -> Row {
-    let table = ROWS;
-    table[(k % 17) as usize]
-}
-
 // The digests are of memories of 80 numbers.
-fn refusal(operation: u32, row: Row) {
-    let left = memories::run(Case {
+fn outcome(operation: u32, row: u32) -> Left {
+    memories::run(Case {
         operation: operation,
-        level: row.level,
+        level: row / 1000000,
         kind: memories::UNITS,
         size: 80,
-        length: row.length,
-        half: row.half,
-        room: row.room,
-    });
+        length: (row / 10000 % 100) as usize,
+        half: (row / 100 % 100) as usize,
+        room: (row % 100) as usize,
+    })
+}
+
+fn print(operation: u32, row: u32, left: Left) {
     text::print(
-        b"diff|diff2|diff3|dissipation|neumann",
+        b"diff level # lengths # # |diff2 level # lengths # # |diff3 level # lengths # # |dissipation level # lengths # # |neumann level # lengths # # ",
         operation as u64,
-        &[],
+        &[
+            (row / 1000000) as u64,
+            (row / 10000 % 100) as u64,
+            (row % 100) as u64,
+        ],
     );
     text::print(
-        b" level # lengths # # answer # left # # #\n",
+        b"answer # left # # #\n",
         0,
-        &[
-            row.level as u64,
-            row.length as u64,
-            row.room as u64,
-            left.answer,
-            left.vector,
-            left.half,
-            left.out,
-        ],
+        &[left.answer, left.vector, left.half, left.out],
     );
 }

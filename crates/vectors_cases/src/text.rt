@@ -36,20 +36,16 @@ fn put(byte: u8, n: u64) -> usize {
             1
         }
         b'?' => {
-            index(n);
+            if n == NOWHERE {
+                io::write_all(1, b"none");
+            } else {
+                io::print_decimal(1, n);
+            }
             1
         }
         _ => {
             io::write_all(1, &[byte]);
             0
         }
-    }
-}
-
-fn index(n: u64) {
-    if n == NOWHERE {
-        io::write_all(1, b"none");
-    } else {
-        io::print_decimal(1, n);
     }
 }

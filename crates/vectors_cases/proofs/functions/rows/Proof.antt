@@ -5,12 +5,12 @@ use Rattle.vectors_cases.proofs.functions.rows.Statement.{statement}
 use Rattle.vectors_cases.proofs.functions.rows.Tie as tie
 
 abbrev Inv-loop : tie.InvT-loop
-Inv-loop i₀ i = i ≤ 15
+Inv-loop table i₀ i = i ≤ 15
 
 abbrev μ-loop : tie.MeasureT-loop
-μ-loop i₀ i = 15 - i
+μ-loop table i₀ i = 15 - i
 
 pub rows-spec : {M : Type 1} → statement M
 rows-spec =
     tie.close
-    (tie.spec Inv-loop μ-loop (λ c. search needs) (λ c κs. search needs) (λ c κs. search needs) (λ c. search needs) (λ c. search needs) (λ c. search needs) (λ c. search needs))
+    (tie.spec Inv-loop μ-loop (λ c. search needs) (λ c. search needs) (λ c. search needs) (λ c κs. search needs) (λ c. search needs) (λ c. search needs) (λ c. search needs) (λ c. search needs))

@@ -5,12 +5,12 @@ use Rattle.vectors_cases.proofs.grid.constants.Statement.{statement}
 use Rattle.vectors_cases.proofs.grid.constants.Tie as tie
 
 abbrev Inv-loop : tie.InvT-loop
-Inv-loop table i₀ t3 i = i ≤ 7
+Inv-loop table i₀ i = i ≤ 7
 
 abbrev μ-loop : tie.MeasureT-loop
-μ-loop table i₀ t3 i = 7 - i
+μ-loop table i₀ i = 7 - i
 
 pub constants-spec : {M : Type 1} → statement M
 constants-spec =
     tie.close
-    (tie.spec Inv-loop μ-loop (λ c. search needs) (λ c. search needs) (λ c. search needs) (λ c. search needs) (λ c κs. search needs) (λ c. search needs) (λ c κs. search needs) (λ c. search needs) (λ c. search needs) (λ c. search needs) (λ c. search needs))
+    (tie.spec Inv-loop μ-loop (λ c. search needs) (λ c. search needs) (λ c. search needs) (λ c κs. search needs) (λ c. search needs) (λ c. search needs) (λ c. search needs) (λ c. search needs))

@@ -5,12 +5,12 @@ use Rattle.vectors_cases.proofs.lists.shorts.Statement.{statement}
 use Rattle.vectors_cases.proofs.lists.shorts.Tie as tie
 
 abbrev Inv-loop : tie.InvT-loop
-Inv-loop i₀ i = i ≤ 8
+Inv-loop table i₀ i = i ≤ 8
 
 abbrev μ-loop : tie.MeasureT-loop
-μ-loop i₀ i = 8 - i
+μ-loop table i₀ i = 8 - i
 
 pub shorts-spec : {M : Type 1} → statement M
 shorts-spec =
     tie.close
-    (tie.spec Inv-loop μ-loop (λ c. search needs) (λ c κs. search needs) (λ c κs. search needs) (λ c. search needs) (λ c. search needs) (λ c. search needs) (λ c. search needs))
+    (tie.spec Inv-loop μ-loop (λ c. search needs) (λ c. search needs) (λ c. search needs) (λ c κs. search needs) (λ c κs. search needs) (λ c. search needs) (λ c. search needs) (λ c. search needs) (λ c. search needs))

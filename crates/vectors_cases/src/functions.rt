@@ -79,7 +79,10 @@ fn items(i: u64, row: u32) {
 
 fn item(i: u64, argument: u64, answer: u64) {
     text::print(
-        b"exp special $ $\n|exp patterns # #\n|tan special $ $\n|tan patterns # #\n|square special $ $\n|square patterns # #\n|fourth special $ $\n|fourth patterns # #\n|reciprocal special $ $\n|reciprocal patterns # #\n|exp whole range # #\n|exp near zero # #\n|tan quarter # #\n|tan beyond # #\n|exp tie $ $\n",
+        b"exp special $ $\n|exp patterns # #\n|tan special $ $\n|tan patterns # #\n\
+        |square special $ $\n|square patterns # #\n|fourth special $ $\n|fourth patterns # #\n\
+        |reciprocal special $ $\n|reciprocal patterns # #\n|exp whole range # #\n|exp near zero # #\n\
+        |tan quarter # #\n|tan beyond # #\n|exp tie $ $\n",
         i,
         &[argument, answer],
     );

@@ -33,7 +33,9 @@ pub fn constants() {
 
 fn constant(name: u64, value: f64) {
     text::print(
-        b"constant BH_RADIAL_FACTOR_TRACKING $\n|constant BH_RADIAL_FACTOR_THRESHOLD $\n|constant COURANT_NUMBER $\n|constant BH_SLOWDOWN_FACTOR $\n|constant EPS $\n|constant DISSIPATION_FACTOR $\n|constant INITIAL_WAVE_STEEPNESS $\n",
+        b"constant BH_RADIAL_FACTOR_TRACKING $\n|constant BH_RADIAL_FACTOR_THRESHOLD $\n\
+        |constant COURANT_NUMBER $\n|constant BH_SLOWDOWN_FACTOR $\n|constant EPS $\n\
+        |constant DISSIPATION_FACTOR $\n|constant INITIAL_WAVE_STEEPNESS $\n",
         name,
         &[bits_of(value)],
     );
@@ -62,7 +64,8 @@ pub fn outside() {
 
 fn line(what: u32, level: u32) {
     text::print(
-        b"grid level # length #\n|grid level # delta $\n|grid level # points #\n|grid level # tangents #\n|outside level # length #\n|outside level # delta $\n|outside level # point $\n|beyond level # point $\n",
+        b"grid level # length #\n|grid level # delta $\n|grid level # points #\n|grid level # tangents #\n\
+        |outside level # length #\n|outside level # delta $\n|outside level # point $\n|beyond level # point $\n",
         what as u64,
         &[level as u64, number(what, level)],
     );

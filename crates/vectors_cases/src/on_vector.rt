@@ -29,7 +29,8 @@ fn map(length: usize) {
     text::print(b"exp all # #\n", 0, &[length as u64, left.vector]);
 }
 
-// The operation and the number that is printed, in the order of the names that `print` has.
+// The operation, and which of its numbers is printed: 0 out, 1 half, 2 the vector, 3 the minimum, 4 the index. In the order
+// of `name`.
 #[rattlefmt::skip]
 const LINES: [u32; 15] = [
     0_0, 1_0, 2_0, 3_0, 3_1,
@@ -65,11 +66,12 @@ fn vector_at(k: u32) -> u32 {
 }
 
 fn print(i: u64, vector: u32, line: u32, bound: u64) {
-    let shown = line % 5;
+    let shown = line % 10;
     let n = number(line / 10, vector, bound, shown as usize);
     name(i, bound);
     text::print(
-        b" level # vector # #\n| level # vector # #\n| level # vector # #\n| level # vector # $\n| level # vector # ?\n",
+        b" level # vector # #\n| level # vector # #\n| level # vector # #\n\
+        | level # vector # $\n| level # vector # ?\n",
         shown as u64,
         &[(vector / 100) as u64, (vector % 100) as u64, n],
     );
@@ -77,7 +79,8 @@ fn print(i: u64, vector: u32, line: u32, bound: u64) {
 
 fn name(i: u64, bound: u64) {
     text::print(
-        b"diff|diff2|diff3|dissipation|corrected|min|threshold|bound $|bound $|bound $|bound $|bound $|bound $|bound $|neumann",
+        b"diff|diff2|diff3|dissipation|corrected|min|threshold\
+        |bound $|bound $|bound $|bound $|bound $|bound $|bound $|neumann",
         i,
         &[bound],
     );

@@ -37,7 +37,8 @@ fn outcome(operation: u32, row: u32) -> Left {
 
 fn print(operation: u32, row: u32, left: Left) {
     text::print(
-        b"diff level # lengths # # |diff2 level # lengths # # |diff3 level # lengths # # |dissipation level # lengths # # |neumann level # lengths # # ",
+        b"diff level # lengths # # |diff2 level # lengths # # |diff3 level # lengths # # \
+        |dissipation level # lengths # # |neumann level # lengths # # ",
         operation as u64,
         &[
             (row / 1000000) as u64,

@@ -1,39 +1,31 @@
 // Carries out one order turn by turn and prints the lines of each turn.
-use crate::least;
+ghost use Prim.Native.Nat.{_≤_};
 use run::carry_out::Carried;
+use run::carry_out::begin_order;
 use run::carry_out::go_on;
 
 // No order of the table has as many turns.
 const TURNS: u32 = 1024;
 
-pub fn turns(
-    first: Carried,
-    input: &[u8],
+// The first `length` bytes of the input are the order.
+pub fn carry_out(
+    length: usize,
+    input: &[u8; 4100],
     state: &mut [f64; 1032],
     work: &mut [f64; 5160],
     frames: &mut [f64; 8192],
     out: &mut [u8; 147520],
 ) {
-    let mut now = first;
+    let whole = &input[..];
+    let end = least(length, whole.len());
+    let order = &whole[0..end];
+    let mut now = begin_order(order, state, work, frames, out);
     for i in 0..TURNS {
         send(now, out);
-        now = turn(now, input, state, work, frames, out);
-    }
-}
-
-// What follows; nothing after the last lines.
-fn turn(
-    now: Carried,
-    input: &[u8],
-    state: &mut [f64; 1032],
-    work: &mut [f64; 5160],
-    frames: &mut [f64; 8192],
-    out: &mut [u8; 147520],
-) -> Carried {
-    match now {
-        Carried::More(_, job) => go_on(job, input, state, work, frames, out),
-        Carried::Last(_) => Carried::Last(0),
-        Carried::NoRoom => Carried::Last(0),
+        let Carried::More(_, job) = now else {
+            return;
+        };
+        now = go_on(job, order, state, work, frames, out);
     }
 }
 
@@ -48,4 +40,13 @@ fn end_of(now: Carried) -> usize {
         Carried::Last(n) => n,
         Carried::NoRoom => 0,
     }
+}
+
+pub fn least(x: usize, most: usize) -> usize
+    ensures { λ r. ⌜ r ≤ most ⌝ }
+{
+    if x < most {
+        return x;
+    }
+    most
 }

@@ -14,7 +14,8 @@ const SIZES: [usize; 16] = [0, 9, 2, 9, 9, 2, 2, 1, 5, 1, 1, 1, 1, 2, 5, 5];
 
 const LIMITS: [usize; 16] = [0, 0, 0, 0, 0, 0, 0, 0, 0, 0, 0, 0, 0, 0, 4090, 4095];
 
-// The byte to write, the digits to come, what is left of an operand and in how many bytes, and where the command ends.
+// The byte to write, the digits to come, the rest of the operand, how many bytes of the command are left with this one,
+// and where the command ends.
 struct Pen {
     byte: u8,
     digits: u64,
@@ -23,7 +24,8 @@ struct Pen {
     end: usize,
 }
 
-// Writes order k, and zeros after its commands; answers how many bytes it has.
+// Writes order k, and zeros after its commands. Answers how many bytes it has: all of its commands, or the length of its
+// row, a byte more for each order after the row's first.
 pub fn write(k: u64, row: &[u64; 12], bytes: &mut [u8; 4100]) -> usize {
     let mut pen = Pen {
         byte: 0,
@@ -36,7 +38,10 @@ pub fn write(k: u64, row: &[u64; 12], bytes: &mut [u8; 4100]) -> usize {
         pen = moved(row, pen);
         bytes[i] = pen.byte;
     }
-    length(k, row, pen.end)
+    if row[10] == WHOLE {
+        return pen.end;
+    }
+    wrapping_add_u64(row[10], wrapping_sub_u64(k, row[0])) as usize
 }
 
 fn moved(row: &[u64; 12], pen: Pen) -> Pen {
@@ -83,12 +88,4 @@ fn operand(row: &[u64; 12], digit: usize, at: usize) -> u64 {
         13 => 2,
         _ => row[digit % 12],
     }
-}
-
-// How many bytes order k has: the length of its row, a byte more for each order after the row's first.
-fn length(k: u64, row: &[u64; 12], end: usize) -> usize {
-    if row[10] == WHOLE {
-        return end;
-    }
-    wrapping_add_u64(row[10], wrapping_sub_u64(k, row[0])) as usize
 }

@@ -1,13 +1,17 @@
 // Carries out the orders of the table and prints what `oracle orders` prints for them.
-ghost use Prim.Native.Nat.{_≤_};
-
 mod carry;
 mod draft;
 mod sequences;
 mod table;
 
+use carry::least;
 use cases::digest::mixed;
-use run::carry_out::begin_order;
+
+// How many bytes an order has, and the row of the next one.
+struct Written {
+    length: usize,
+    row: usize,
+}
 
 fn main() {
     let mut input = [0u8; 4100];
@@ -15,52 +19,44 @@ fn main() {
     let mut work = [0.0; 5160];
     let mut frames = [0.0; 8192];
     let mut out = [0u8; 147520];
-    let mut words = [0u64; 12];
     let mut row = 0;
     for k in 0..table::ORDERS {
-        table::read(row, &mut words);
-        let length = draft::write(k, &words, &mut input);
-        order(
-            k,
-            length,
+        let written = write(k, row, &mut input);
+        row = written.row;
+        carry::carry_out(
+            written.length,
             &input,
             &mut state,
             &mut work,
             &mut frames,
             &mut out,
         );
-        row = table::row_after(k, row, words[11]);
     }
 }
 
-fn order(
-    k: u64,
-    length: usize,
-    input: &[u8; 4100],
-    state: &mut [f64; 1032],
-    work: &mut [f64; 5160],
-    frames: &mut [f64; 8192],
-    out: &mut [u8; 147520],
-) {
-    let whole = &input[..];
-    let end = least(length, whole.len());
-    let bytes = &whole[0..end];
-    heading(k, bytes);
-    let first = begin_order(bytes, state, work, frames, out);
-    carry::turns(first, bytes, state, work, frames, out);
+// Writes order k and prints its heading.
+fn write(k: u64, row: usize, input: &mut [u8; 4100]) -> Written {
+    let mut words = [0u64; 12];
+    table::read(row, &mut words);
+    let length = draft::write(k, &words, input);
+    heading(k, length, input);
+    Written {
+        length: length,
+        row: table::row_after(k, row, words[11]),
+    }
 }
 
 // The order's number, how many bytes it has and their digest.
-fn heading(k: u64, order: &[u8]) {
-    number(b"order ", k);
-    number(b" bytes ", order.len() as u64);
-    number(b" ", digest(order));
+fn heading(k: u64, length: usize, input: &[u8; 4100]) {
+    let whole = &input[..];
+    let end = least(length, whole.len());
+    io::write_all(1, b"order ");
+    io::print_decimal(1, k);
+    io::write_all(1, b" bytes ");
+    io::print_decimal(1, end as u64);
+    io::write_all(1, b" ");
+    io::print_decimal(1, digest(&whole[0..end]));
     io::write_all(1, b"\n");
-}
-
-fn number(word: &[u8], n: u64) {
-    io::write_all(1, word);
-    io::print_decimal(1, n);
 }
 
 fn digest(bytes: &[u8]) -> u64 {
@@ -73,13 +69,4 @@ fn digest(bytes: &[u8]) -> u64 {
 
 fn with_byte(d: u64, b: u8) -> u64 {
     mixed(d, b as u64)
-}
-
-fn least(x: usize, most: usize) -> usize
-    ensures { λ r. ⌜ r ≤ most ⌝ }
-{
-    if x < most {
-        return x;
-    }
-    most
 }

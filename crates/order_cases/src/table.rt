@@ -260,7 +260,7 @@ const TABLE: [u64; 2079] = [
     413, F20, 7, F0_04, 0x3F7FC07F01FC07F0, 1, 0, TWO, 3,   20, WHOLE,
     // 14 after frames.
     414, F20, 6, F4, F0_04, 2, 0, TWO, 50, LAST, WHOLE,
-    // Settings by the generator of oracle/arguments.rs: levels 5 to 7, amplitudes 0 to 60, max time 0 to 2, 1 to 16 times the least interval.
+    // Settings, commands and budgets by the generator of oracle/arguments.rs.
     415, 0x402254142BDA3D94, 5, 0x3FE16551D05E7070, 0x3FDB06FA5FFADD77, 2, 0, 0x5612347889000000, 22, 3,  WHOLE,
     416, 0x402254142BDAB004, 5, 0x3FF2B3E4AE7E4214, 0x3FD1EA94713EC023, 1, 0, 0x2165437889000000, 8,  0,  WHOLE,
     417, 0x402254142BDB227A, 6, 0x3FFCB52074CD4BF0, 0x3FB1E1B557CE36F2, 2, 0, 0x3456127889000000, 10, 13, WHOLE,
@@ -313,14 +313,10 @@ const TABLE: [u64; 2079] = [
 
 // Reads a row and, after it, the number of the next row's first order.
 pub fn read(row: usize, words: &mut [u64; 12]) {
-    for i in 0..12usize {
-        words[i] = word(row, i);
-    }
-}
-
-fn word(row: usize, column: usize) -> u64 {
     let table = TABLE;
-    table[(row % ROWS * 11 + column % 12) % 2079]
+    for i in 0..12usize {
+        words[i] = table[(row % ROWS * 11 + i) % 2079];
+    }
 }
 
 // The row of the order after order k.

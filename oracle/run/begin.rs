@@ -1,4 +1,4 @@
-//! What begin answers, and what it leaves. crates/run_cases/src/begin.rt makes the calls.
+//! What begin answers, and what it leaves. crates/run_cases/src/begin.rt has the same calls.
 use super::memories::{Memories, FRAMES, STATE, WORK};
 use super::plain::Machine;
 use super::settings::{least_interval, Settings};

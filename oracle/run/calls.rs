@@ -1,4 +1,4 @@
-//! Single calls: what the tally answers, and what the calls leave. crates/run_cases/src/calls.rt makes them.
+//! Single calls: what the tally answers, and what the calls leave. crates/run_cases/src/calls.rt has the same.
 use super::lines::reply;
 use super::memories::{Memories, FRAMES};
 use super::settings::{Case, Settings};

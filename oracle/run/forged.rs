@@ -1,4 +1,4 @@
-//! An advance on a record or a state that no run has. crates/run_cases/src/forged.rt makes the calls.
+//! An advance on a record or a state that no run has. crates/run_cases/src/forged.rt has the same calls.
 use super::begin::fault;
 use super::lines::reply;
 use super::memories::{Memories, FRAMES};

@@ -1,5 +1,5 @@
 //! Every case with several lists of budgets: each line has what the plain run gives for the whole of the attempts, and
-//! by the tally how many calls there were and what they answered. crates/run_cases/src/lists.rt makes the calls.
+//! by the tally how many calls there were and what they answered. crates/run_cases/src/lists.rt has the same calls.
 use super::begin::begin;
 use super::lines::{mass, name};
 use super::memories::{FRAMES, STATE, WORK};

@@ -123,14 +123,14 @@ const TABLE: [u64; 2079] = [
     292, F20, 5, F1, F0_5, 0, 2,   TWO, 3, 100, WHOLE,
     293, F20, 5, F1, F0_5, 0, 128, TWO, 3, 100, WHOLE,
     294, F20, 5, F1, F0_5, 0, 255, TWO, 3, 100, WHOLE,
-    // 5.
+    // Refused with 5.
     295, F20, 4,   F1, F0_5, 0,  0, TWO, 3, 100, WHOLE,
     296, F20, 17,  F1, F0_5, 0,  0, TWO, 3, 100, WHOLE,
     297, F20, 0,   F1, F0_5, 0,  0, TWO, 3, 100, WHOLE,
     298, F20, 255, F1, F0_5, 0,  0, TWO, 3, 100, WHOLE,
     299, NAN, 4,   F1, F0,   5,  0, TWO, 3, 100, WHOLE,
     300, NAN, 17,  F1, F0,   18, 1, TWO, 3, 100, WHOLE,
-    // 6; the float below the least interval, and the least, which is accepted.
+    // Refused with 6: also the float below the least interval, and the least, which is accepted.
     301, F20, 5,  F1,   F0,                 0,  0, TWO, 3, 100, WHOLE,
     302, F20, 5,  F1,   N0,                 0,  0, TWO, 3, 100, WHOLE,
     303, F20, 5,  F1,   N1,                 0,  1, TWO, 3, 100, WHOLE,
@@ -146,13 +146,13 @@ const TABLE: [u64; 2079] = [
     313, F20, 8,  F1,   0x3F6FE01FE01FE01F, 0,  0, TWO, 3, 100, WHOLE,
     314, F20, 16, F1,   0x3EEFFFE0001FFFDF, 17, 1, TWO, 3, 100, WHOLE,
     315, NAN, 5,  F1,   F0,                 6,  0, TWO, 3, 100, WHOLE,
-    // 7.
+    // Refused with 7.
     316, F20, 5,  F1, F0_5, 6,   0, TWO, 3, 100, WHOLE,
     317, F20, 5,  F1, F0_5, 255, 1, TWO, 3, 100, WHOLE,
     318, F20, 7,  F1, F0_5, 8,   0, TWO, 3, 100, WHOLE,
     319, F20, 8,  F1, F0_5, 9,   0, TWO, 3, 100, WHOLE,
     320, NAN, 16, F1, F0_5, 17,  0, TWO, 3, 100, WHOLE,
-    // 11: the program lends for level 7.
+    // Refused with 11: the program lends for level 7.
     321, F20,                8,  F1, F0_5,               0,  0, TWO, 3, 100, WHOLE,
     322, F20,                8,  F1, 0x3F6FE01FE01FE020, 8,  1, TWO, 3, 100, WHOLE,
     323, F20,                9,  F1, F0_5,               9,  0, TWO, 3, 100, WHOLE,
@@ -160,7 +160,7 @@ const TABLE: [u64; 2079] = [
     325, F20,                16, F1, F0_5,               16, 0, TWO, 3, 100, WHOLE,
     326, NAN,                8,  F1, F0_5,               0,  0, TWO, 3, 100, WHOLE,
     327, 0x4085017E590A6FCA, 8,  F1, F0_5,               0,  0, TWO, 3, 100, WHOLE,
-    // 13: the first amplitude of a level whose initial state holds a NaN, and the float below it.
+    // Refused with 13: the first amplitude of a level whose initial state holds a NaN, and the float below it.
     328, 0x4084E273E543992E, 5, F1,  F0_5, 0, 0, TWO, 3, 100, WHOLE,
     329, 0x4084E273E543992F, 5, F1,  F0_5, 0, 0, TWO, 3, 100, WHOLE,
     330, 0x4084E273E543992F, 5, F1,  F0_5, 0, 1, TWO, 3, 100, WHOLE,
@@ -224,7 +224,7 @@ const TABLE: [u64; 2079] = [
     384, F10, 7, F4, NAN, 2, 0, FOUR, LAST, MOST, WHOLE,
     385, F10, 6, F4, NAN, 2, 0, FOUR, MOST, 2,    WHOLE,
     386, F10, 5, F4, NAN, 5, 1, FOUR, 40,   30,   WHOLE,
-    // 14: too large at once; after a step; then what is left.
+    // Budgets refused with 14: too large at once; after a step; then what is left.
     387, F20, 5, F1,       F1,       0, 1, FOUR,  2147483648, 5,          WHOLE,
     388, F20, 5, F1,       F1,       0, 1, FOUR,  5,          LAST,       WHOLE,
     389, F20, 5, F1,       F1,       0, 1, FOUR,  1,          2147483646, WHOLE,
@@ -258,7 +258,7 @@ const TABLE: [u64; 2079] = [
     // A budget that is used up where frame memory is full (409 frames of 20) and a frame step comes; a short one.
     412, F20, 7, F4,    0x3F7FC07F01FC07F0, 0, 0, TWO, 819, 2,  WHOLE,
     413, F20, 7, F0_04, 0x3F7FC07F01FC07F0, 1, 0, TWO, 3,   20, WHOLE,
-    // 14 after frames.
+    // Refused with 14 after frames.
     414, F20, 6, F4, F0_04, 2, 0, TWO, 50, LAST, WHOLE,
     // Settings, commands and budgets by the generator of oracle/arguments.rs.
     415, 0x402254142BDA3D94, 5, 0x3FE16551D05E7070, 0x3FDB06FA5FFADD77, 2, 0, 0x5612347889000000, 22, 3,  WHOLE,

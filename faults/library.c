@@ -8,7 +8,15 @@
 #include <string.h>
 
 static uint64_t seed = 1;
-static unsigned long calls = 0, answers[32];
+static unsigned long calls = 0, answers[COLLAPSE_SPENT + 1];
+
+/* A number past the last is no answer: the caller objects to it. */
+static void count(uint32_t answer)
+{
+    calls++;
+    if (answer <= COLLAPSE_SPENT)
+        answers[answer]++;
+}
 
 static uint64_t draw(void)
 {
@@ -143,7 +151,7 @@ static uint32_t fault_of(const double *r)
     return r[COLLAPSE_AT_DX_LEVEL] > r[COLLAPSE_AT_LEVEL] ? COLLAPSE_REFUSED_DX_LEVEL : 0;
 }
 
-/* What begin and advance share: 16, then 5, 6, 7, 11. */
+/* What begin and advance share: no record, then 5, 6, 7, 11. */
 static uint32_t refusal_of(struct call c, int begun)
 {
     const double *r = c.record.at;
@@ -222,8 +230,7 @@ static uint32_t checked_begin(struct call c)
 {
     struct call before = copies(c);
     uint32_t refusal = begin_refusal(c), answer = begin(c);
-    calls++;
-    answers[answer & 31]++;
+    count(answer);
     if (refusal != 0 ? answer != refusal : answer != COLLAPSE_BEGUN && answer != COLLAPSE_REFUSED_NAN)
         object("begin answers", before, 0, answer);
     if (answer != COLLAPSE_BEGUN && !unchanged(before, c, answer != COLLAPSE_REFUSED_NAN))
@@ -264,8 +271,7 @@ static uint32_t checked_advance(struct call c, uint32_t budget)
 {
     struct call before = copies(c);
     uint32_t refusal = advance_refusal(c, budget), answer = advance(c, budget);
-    calls++;
-    answers[answer & 31]++;
+    count(answer);
     if (refusal != 0 ? answer != refusal : answer < COLLAPSE_FULL || answer > COLLAPSE_SPENT)
         object("advance answers", before, budget, answer);
     if (refusal != 0 && !unchanged(before, c, 1))
@@ -312,8 +318,7 @@ static void run_exactly(uint32_t level, double amplitude, int skip, size_t budge
         uint32_t budget = (uint32_t)below(9);
         double steps = c.record.at[COLLAPSE_AT_STEPS];
         answer = advance(c, budget);
-        calls++;
-        answers[answer & 31]++;
+        count(answer);
         if (answer < COLLAPSE_FULL || !advanced(c, steps, budget, answer))
             object("advance of a run", c, budget, answer);
     }
@@ -418,7 +423,7 @@ int main(int count, char **words)
         fprintf(stderr, "level %u: %lu calls\n", (unsigned)level, calls);
     }
     printf("%lu calls, every answer as document 01 has it:", calls);
-    for (size_t i = 0; i < 32; i++)
+    for (size_t i = 0; i <= COLLAPSE_SPENT; i++)
         if (answers[i] > 0)
             printf(" %lu x %zu", answers[i], i);
     printf("\n");

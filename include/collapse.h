@@ -6,7 +6,10 @@
    side by side, in threads too.
 
    Every call takes any numbers and any lengths. One that is refused changes nothing in the record, in state memory and
-   in frame memory. */
+   in frame memory.
+
+   A caller leaves the floating-point mode as a C program finds it: rounding to nearest, subnormal numbers on (no
+   FTZ, no DAZ, not -ffast-math). In another mode every call is as safe, but its numbers are others. */
 #ifndef COLLAPSE_H
 #define COLLAPSE_H
 
@@ -39,7 +42,8 @@ enum collapse_place {
     COLLAPSE_RECORD_SIZE = 12
 };
 
-/* What collapse_begin and collapse_advance answer. */
+/* What collapse_begin and collapse_advance answer. Below 100 every number is one of the documents', from 100 on one of our
+   own. An answer below COLLAPSE_FULL is a refusal, or COLLAPSE_BEGUN. */
 enum collapse_answer {
     /* collapse_begin: the run has begun */
     COLLAPSE_BEGUN = 0,
@@ -51,15 +55,15 @@ enum collapse_answer {
     COLLAPSE_REFUSED_FRAME_MEMORY = 12, /* collapse_begin, not skipped: no room for a frame */
     COLLAPSE_REFUSED_NAN = 13,          /* collapse_begin: the initial state holds a NaN */
     COLLAPSE_REFUSED_STEPS = 14,        /* collapse_advance, run not ended: steps + budget above 2147483647 */
-    COLLAPSE_REFUSED_RECORD = 16,       /* no record: fewer than 12 numbers; a level, a dx level or (collapse_advance)
+    COLLAPSE_REFUSED_RECORD = 101,      /* no record: fewer than 12 numbers; a level, a dx level or (collapse_advance)
                                            steps that is no whole number from 0 to 4294967295; a skip or (collapse_advance)
                                            a broken mark that is neither 0 nor 1. Tested before all else. */
     /* collapse_advance: how the run stands */
-    COLLAPSE_FULL = 20,      /* the next attempt makes a frame and frame memory has no room; call again with the rest */
-    COLLAPSE_COLLAPSED = 21, /* ended: a black hole formed */
-    COLLAPSE_BROKE = 22,     /* ended: a step would have held a NaN */
-    COLLAPSE_TIMED_OUT = 23, /* ended: past max time */
-    COLLAPSE_SPENT = 24      /* not ended: the budget is used up */
+    COLLAPSE_FULL = 110,      /* the next attempt makes a frame and frame memory has no room; call again with the rest */
+    COLLAPSE_COLLAPSED = 111, /* ended: a black hole formed */
+    COLLAPSE_BROKE = 112,     /* ended: a step would have held a NaN */
+    COLLAPSE_TIMED_OUT = 113, /* ended: past max time */
+    COLLAPSE_SPENT = 114      /* not ended: the budget is used up */
 };
 
 /* How many doubles state and work memory need at a level; 0 for a level outside 5 to 16. */

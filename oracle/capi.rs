@@ -17,11 +17,11 @@ extern "C" {
 /// The numbers of a record.
 pub const RECORD: usize = 12;
 pub const BEGUN: u32 = 0;
-pub const FULL: u32 = 20;
-pub const COLLAPSED: u32 = 21;
-pub const BROKE: u32 = 22;
-pub const TIMED_OUT: u32 = 23;
-pub const SPENT: u32 = 24;
+pub const FULL: u32 = 110;
+pub const COLLAPSED: u32 = 111;
+pub const BROKE: u32 = 112;
+pub const TIMED_OUT: u32 = 113;
+pub const SPENT: u32 = 114;
 
 pub fn state_size(level: u32) -> usize {
     unsafe { collapse_state_size(level) }

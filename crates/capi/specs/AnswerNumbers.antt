@@ -1,75 +1,54 @@
--- No number stands for two answers: begin's refusals and advance's are the numbers that 01 lists for each, none of which is 0 or 16 or one of
--- those that attempts answer, 20 to 24.
+-- No number stands for two answers: a refusal that 01 has carries the number that 01 lists for its call, and the numbers of our own are no
+-- document's: all of them are at least 100. Below the number of full an answer is a refusal, or begin's 0.
 use mathlib.Core.Path.{_≡_, refl}
-use mathlib.Core.Bool.{Bool, true, false, cond, not, _||_, _&&_}
-use mathlib.Core.List.{List, [], _∷_}
+use mathlib.Core.Bool.{Bool, true, false, cond, not, _||_, _&&_, false≢true}
+use mathlib.Core.List.{List, [], _∷_, _++_}
 use mathlib.Core.Option.{Option, none, some}
 use Prim.Native.Nat.{ℕ, zero, suc, _+_}
-use lib.Dec.{eqb, ltb}
+use lib.Dec.{eqb, ltb, leb}
 use lib.Ieee.{Float}
 use lib.ListN.{length}
-use Rattle.vectors.specs.Grid.{levelInRange}
-use Rattle.run.specs.Calls.{Stop, machineOf, lentRefusal, beginRefusal, advanceRefusal, isFull, attemptsFrom}
-use Rattle.run.specs.Inputs as inputs
-use Rattle.run.specs.Inputs.{intervalTooShort, dxTooFine}
-use Rattle.run.specs.Model.{faultAt, frameCount, holdsNan, firstState}
+use Rattle.run.specs.Calls.{Stop, machineOf, AfterBegin, beginRefusal, beginOf, AfterAdvance, advanceRefusal, advanceOf, isFull, attemptsFrom}
 use Rattle.run.specs.Outcome.{Outcome, collapse, broke, timeout, spent}
-use Rattle.run.specs.PlainRun.{Machine, option, hasEnded, outcomeOf, attempt}
-use Rattle.run.specs.Tally.{full, ran, tooShort, tooMany}
+use Rattle.run.specs.PlainRun.{Machine, option, outcomeOf, attempt}
+use Rattle.run.specs.Tally.{full, ran}
 use Rattle.run.specs.declared.settings.Settings.{Settings}
 use Rattle.run.specs.declared.settings.Record.{Record}
-use Rattle.capi.specs.Told.{toldOf}
+use Rattle.run.specs.Report.{noRoomForText}
+use Rattle.claims.specs.RefusalNumbers.{among, refusalAmong, among-longer, beginRefusals, advanceRefusals, begin-refusals, advance-refusals}
+use Rattle.capi.specs.Layout.{settingsIn, recordIn}
+use Rattle.capi.specs.Told.{noRecordNumber, fullNumber, collapseNumber, brokenNumber, timeoutNumber, spentNumber, noRecord, beganNumber, beganCall, beginCall, toldOf, advancedCall, advanceCall}
 
--- whether a number stands in a list
-unfoldable pub among : List ℕ → ℕ → Bool
-among [] n = false
-among (x ∷ xs) n = eqb n x || among xs n
-
--- the same of a refusal's number; where nothing is refused, yes
-abbrev pub refusalAmong : List ℕ → Option ℕ → Bool
-refusalAmong xs none = true
-refusalAmong xs (some n) = among xs n
-
--- "Begin: 5, 6, 7, 11, 12, 13" and "Advance: 5, 6, 7, 11, 14" (01, "From the state")
-abbrev pub beginRefusals : List ℕ
-beginRefusals = 5 ∷ 6 ∷ 7 ∷ 11 ∷ 12 ∷ 13 ∷ []
-
-abbrev pub advanceRefusals : List ℕ
-advanceRefusals = 5 ∷ 6 ∷ 7 ∷ 11 ∷ 14 ∷ []
-
+-- how a run stands after an advance
 abbrev pub attemptsNumbers : List ℕ
-attemptsNumbers = 20 ∷ 21 ∷ 22 ∷ 23 ∷ 24 ∷ []
+attemptsNumbers = fullNumber ∷ collapseNumber ∷ brokenNumber ∷ timeoutNumber ∷ spentNumber ∷ []
 
-module _ (xs : List ℕ) where
-  either : (b : Bool) (o p : Option ℕ) → refusalAmong xs o ≡ true → refusalAmong xs p ≡ true → refusalAmong xs (cond b o p) ≡ true
-  either true o p e f = e
-  either false o p e f = f
+-- all that are our own
+abbrev pub ownNumbers : List ℕ
+ownNumbers = noRoomForText ∷ noRecordNumber ∷ attemptsNumbers
 
-  first : (o p : Option ℕ) → refusalAmong xs o ≡ true → refusalAmong xs p ≡ true → refusalAmong xs (option o some p) ≡ true
-  first none p e f = f
-  first (some n) p e f = e
+-- whether every number of a list passes a test
+unfoldable pub every : (ℕ → Bool) → List ℕ → Bool
+every test [] = true
+every test (x ∷ xs) = test x && every test xs
 
-  fault-among : (s : Settings) → among xs 5 ≡ true → among xs 6 ≡ true → among xs 7 ≡ true → refusalAmong xs (faultAt s) ≡ true
-  unfolding faultAt inputs.faultAt
-  fault-among s five six seven =
-      either (levelInRange (s .level)) _ (some 5) (either (intervalTooShort s) (some 6) _ six (either (dxTooFine s) (some 7) none seven refl)) five
+-- all of ours are at least 100, and no document's refusal is
+pub own-from-100 : every (leb 100) ownNumbers ≡ true
+unfolding every
+own-from-100 = refl
 
-pub begin-refusals : (s : Settings) (state work frames : ℕ) → refusalAmong beginRefusals (beginRefusal s state work frames) ≡ true
-unfolding beginRefusal lentRefusal among
-begin-refusals s state work frames =
-    first beginRefusals (lentRefusal s state work frames) _
-    (first beginRefusals (faultAt s) _ (fault-among beginRefusals s refl refl refl)
-    (either beginRefusals (tooShort s state work) (some 11) _ refl
-    (either beginRefusals (not (s .skip) && ltb frames (frameCount s)) (some 12) none refl refl)))
-    (either beginRefusals (holdsNan (firstState s)) (some 13) none refl refl)
+pub refusals-below-100 : every (λ n. ltb n 100) (beginRefusals ++ advanceRefusals) ≡ true
+unfolding every
+refusals-below-100 = refl
 
-pub advance-refusals : (r : Record) (memory : List Float) (work budget : ℕ) → refusalAmong advanceRefusals (advanceRefusal r memory work budget) ≡ true
-unfolding advanceRefusal among
-advance-refusals r memory work budget =
-    let s = r .settings in
-    first advanceRefusals (faultAt s) _ (fault-among advanceRefusals s refl refl refl)
-    (either advanceRefusals (tooShort s (length memory) work) (some 11) _ refl
-    (either advanceRefusals (tooMany (hasEnded s (machineOf r memory)) (r .steps) budget) (some 14) none refl refl))
+-- so `answer < COLLAPSE_FULL` means refused or begun
+pub refused-below-full : every (λ n. ltb n fullNumber) (0 ∷ noRecordNumber ∷ (beginRefusals ++ advanceRefusals)) ≡ true
+unfolding every
+refused-below-full = refl
+
+pub attempts-from-full : every (leb fullNumber) attemptsNumbers ≡ true
+unfolding every
+attempts-from-full = refl
 
 outcome-among : (o : Outcome) (k : ℕ) → among attemptsNumbers (toldOf (ran o k) .number) ≡ true
 unfolding toldOf among
@@ -89,3 +68,58 @@ attempts-numbers s room (suc left) made m = go (isFull s room m) (attempts-numbe
         ≡ true
     go true e = refl
     go false e = e
+
+-- ---- what the calls answer
+joined-left : (n : ℕ) (xs ys : List ℕ) → among xs n ≡ true → among (xs ++ ys) n ≡ true
+unfolding among
+joined-left n [] ys e = absurd (false≢true e)
+joined-left n (x ∷ xs) ys e = go (eqb n x) e
+  where
+    go : (b : Bool) → (b || among xs n) ≡ true → (b || among (xs ++ ys) n) ≡ true
+    go true h = refl
+    go false h = joined-left n xs ys h
+
+joined-right : (n : ℕ) (xs ys : List ℕ) → among ys n ≡ true → among (xs ++ ys) n ≡ true
+joined-right n [] ys e = e
+joined-right n (x ∷ xs) ys e = among-longer x n (xs ++ ys) (joined-right n xs ys e)
+
+-- the number of an answer that is a refusal among xs, or another
+answered :
+    {A : Type 0} (number : A → ℕ) (xs numbers : List ℕ) (o : Option ℕ) (refusing : ℕ → A) (other : A) →
+    ((n : ℕ) → among xs n ≡ true → among numbers (number (refusing n)) ≡ true) → among numbers (number other) ≡ true →
+    refusalAmong xs o ≡ true → among numbers (number (option o refusing other)) ≡ true
+answered number xs numbers none refusing other f g e = g
+answered number xs numbers (some n) refusing other f g e = f n e
+
+module _ (slice memory work frames : List Float) where
+  -- begin: 0, no record, or a refusal that 01 lists for it
+  pub begin-number : among (0 ∷ noRecordNumber ∷ beginRefusals) (beginCall slice memory work frames .number) ≡ true
+  unfolding beginCall beganCall beganNumber beginOf noRecord among
+  begin-number = go (settingsIn slice)
+    where
+      go : (o : Option Settings) →
+          among (0 ∷ noRecordNumber ∷ beginRefusals)
+          (option o (λ s. beganCall slice (beginOf s memory work frames)) (noRecord slice memory frames) .number)
+          ≡ true
+      go none = refl
+      go (some s) =
+          answered (λ (b : AfterBegin). beganNumber (b .answer)) beginRefusals _ (beginRefusal s (length memory) (length work) (length frames)) _ _
+          (λ n e. among-longer 0 n _ (among-longer noRecordNumber n beginRefusals e)) refl
+          (begin-refusals s (length memory) (length work) (length frames))
+
+  -- advance: no record, a refusal that 01 lists for it, or how the run stands
+  pub advance-number : (budget : ℕ) → among (noRecordNumber ∷ (advanceRefusals ++ attemptsNumbers)) (advanceCall slice memory work frames budget .number) ≡ true
+  unfolding advanceCall advancedCall advanceOf noRecord toldOf among
+  advance-number budget = go (recordIn slice)
+    where
+      go : (o : Option Record) →
+          among (noRecordNumber ∷ (advanceRefusals ++ attemptsNumbers))
+          (option o (λ r. advancedCall slice (advanceOf r memory work frames budget)) (noRecord slice memory frames) .number)
+          ≡ true
+      go none = refl
+      go (some r) =
+          answered (λ (d : AfterAdvance). toldOf (d .reply) .number) advanceRefusals _ (advanceRefusal r memory (length work) budget) _ _
+          (λ n e. among-longer noRecordNumber n _ (joined-left n advanceRefusals attemptsNumbers e))
+          (among-longer noRecordNumber _ _ (joined-right _ advanceRefusals attemptsNumbers
+          (attempts-numbers (r .settings) (length frames) budget 0 (machineOf r memory))))
+          (advance-refusals r memory (length work) budget)

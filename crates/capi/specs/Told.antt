@@ -14,6 +14,27 @@ use Rattle.capi.specs.Numbers.{zero}
 use Rattle.capi.specs.Layout.{settingsIn, recordIn, laidOut}
 use Rattle.capi.specs.declared.told.Told.{Told}
 
+-- Numbers of our own (docs/DECISIONS.md): below 100 every number is a document's, and 100 is run's, no room for a text.
+-- A slice that holds no record:
+abbrev pub noRecordNumber : ℕ
+noRecordNumber = 101
+
+-- how a run stands after an advance
+abbrev pub fullNumber : ℕ
+fullNumber = 110
+
+abbrev pub collapseNumber : ℕ
+collapseNumber = 111
+
+abbrev pub brokenNumber : ℕ
+brokenNumber = 112
+
+abbrev pub timeoutNumber : ℕ
+timeoutNumber = 113
+
+abbrev pub spentNumber : ℕ
+spentNumber = 114
+
 -- the answer's number, and the three memories that a call may write and whose numbers are told
 pub record AfterCall : Type 0 where
   pub number : ℕ
@@ -24,9 +45,9 @@ pub record AfterCall : Type 0 where
 abbrev pub afterCall : (number : ℕ) (slice memory frames : List Float) → AfterCall
 afterCall number slice memory frames = record { number = number; slice = slice; memory = memory; frames = frames }
 
--- a slice that holds no record: 16, a number of this crate, and nothing changes
+-- a slice that holds no record: nothing changes
 unfoldable pub noRecord : (slice memory frames : List Float) → AfterCall
-noRecord slice memory frames = afterCall 16 slice memory frames
+noRecord slice memory frames = afterCall noRecordNumber slice memory frames
 
 -- ---- begin
 -- 0, or 01's number of a refusal
@@ -51,18 +72,18 @@ unfoldable pub beginCallUses : (slice : List Float) → (state work frames : ℕ
 beginCallUses slice state work frames = option (settingsIn slice) (λ s. beginUses s state work frames) 0
 
 -- ---- advance
--- 01's number of a refusal, which leaves the slice; full, with its attempts, and the outcomes, collapse with its mass, have numbers of this
--- crate and are laid out with how many frames were written
+-- 01's number of a refusal, which leaves the slice; full, with its attempts, and the outcomes, collapse with its mass, have numbers of
+-- our own and are laid out with how many frames were written
 abbrev pub told : (number : ℕ) (lays : Bool) (frames attempts : ℕ) (mass : Float) → Told
 told number lays frames attempts mass = record { number = number; lays = lays; frames = frames; attempts = attempts; mass = mass }
 
 unfoldable pub toldOf : Reply → Told
 toldOf (refused n) = told n false 0 0 zero
-toldOf (full a k) = told 20 true k a zero
-toldOf (ran (collapse m) k) = told 21 true k 0 m
-toldOf (ran broke k) = told 22 true k 0 zero
-toldOf (ran timeout k) = told 23 true k 0 zero
-toldOf (ran spent k) = told 24 true k 0 zero
+toldOf (full a k) = told fullNumber true k a zero
+toldOf (ran (collapse m) k) = told collapseNumber true k 0 m
+toldOf (ran broke k) = told brokenNumber true k 0 zero
+toldOf (ran timeout k) = told timeoutNumber true k 0 zero
+toldOf (ran spent k) = told spentNumber true k 0 zero
 
 -- the slice that held the record
 unfoldable pub toldSlice : Told → Record → List Float → List Float

@@ -15,7 +15,7 @@ use Rattle.run.specs.declared.simulate.Begun.{Begun}
 use Rattle.vectors.specs.Memory.{put}
 use Rattle.capi.specs.Layout.{settingsIn, recordIn, laidOut}
 use Rattle.capi.specs.declared.told.Told.{Told}
-use Rattle.capi.specs.Told.{afterCall, noRecord, beganNumber, beganSlice, beganCall, beginCall, beginCallUses, toldOf, toldSlice, advancedCall, advanceCall, advanceCallUses}
+use Rattle.capi.specs.Told.{noRecordNumber, afterCall, noRecord, beganNumber, beganSlice, beganCall, beginCall, beginCallUses, toldOf, toldSlice, advancedCall, advanceCall, advanceCallUses}
 
 -- ---- an answer whose case is known
 pub begun-is : {a b : Begun} (n : ℕ) (slice after : List Float) → a ≡ b → n ≡ beganNumber (beganOf b) → after ≡ beganSlice (beganOf b) slice
@@ -40,7 +40,7 @@ told-kept t u r slice e f = (
 
 -- ---- begin
 module _ (slice memory work frames : List Float) where
-  pub begin-none : settingsIn slice ≡ none → afterCall 16 slice memory frames ≡ beginCall slice memory work frames
+  pub begin-none : settingsIn slice ≡ none → afterCall noRecordNumber slice memory frames ≡ beginCall slice memory work frames
   unfolding beginCall noRecord
   begin-none e = rw e
 
@@ -59,7 +59,7 @@ module _ (slice memory work frames : List Float) where
 
 -- ---- advance
 module _ (slice memory work frames : List Float) (budget : ℕ) where
-  pub advance-none : recordIn slice ≡ none → afterCall 16 slice memory frames ≡ advanceCall slice memory work frames budget
+  pub advance-none : recordIn slice ≡ none → afterCall noRecordNumber slice memory frames ≡ advanceCall slice memory work frames budget
   unfolding advanceCall noRecord
   advance-none e = rw e
 

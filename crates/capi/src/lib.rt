@@ -2,7 +2,8 @@
 // and then a length. include/collapse.h names every function and number.
 ghost use mathlib.Core.Path.{_≡_};
 ghost use lib.ListN.{length, drop};
-ghost use Rattle.capi.specs.Sizes.{stateSizeOf, workSizeOf, frameSizeAt};
+ghost use Rattle.run.specs.Frames.{frameSizeAt};
+ghost use Rattle.capi.specs.Sizes.{stateSizeOf, workSizeOf};
 ghost use Rattle.capi.specs.Told.{afterCall, beginCall, beginCallUses, advanceCall, advanceCallUses};
 
 mod layout;
@@ -13,6 +14,7 @@ use crate::layout::Asked;
 use crate::layout::Held;
 use crate::layout::record_in;
 use crate::layout::settings_in;
+use crate::told::NO_RECORD;
 use crate::told::tell_advanced;
 use crate::told::tell_begun;
 use run::settings::Settings;
@@ -42,9 +44,6 @@ pub extern "C" fn collapse_work_size(level: u32) -> usize
 pub extern "C" fn collapse_frame_size(dx_level: u32) -> usize
     ensures { λ r. ⌜ r ≡ frameSizeAt «dx_level» ⌝ }
 {
-    if 16 < dx_level {
-        return 0;
-    }
     frame_size(Settings {
         amplitude: 0.0,
         level: 16,
@@ -68,7 +67,7 @@ pub extern "C" fn collapse_begin(
 {
     let asked = settings_in(numbers);
     match asked {
-        Asked::Not => 16,
+        Asked::Not => NO_RECORD,
         Asked::Is(settings) => {
             let begun = begin(settings, state, work, frames);
             tell_begun(begun, numbers)
@@ -90,7 +89,7 @@ pub extern "C" fn collapse_advance(
 {
     let held = record_in(numbers);
     match held {
-        Held::Not => 16,
+        Held::Not => NO_RECORD,
         Held::Is(run) => {
             let advanced = advance(run, state, work, frames, budget);
             tell_advanced(advanced, numbers)

@@ -9,6 +9,19 @@ use run::simulate::Advanced;
 use run::simulate::Answer;
 use run::simulate::Begun;
 
+// The numbers of our own; every other is document 01's.
+pub(crate) const NO_RECORD: u32 = 101;
+
+const FULL: u32 = 110;
+
+const COLLAPSE: u32 = 111;
+
+const BROKEN: u32 = 112;
+
+const TIMEOUT: u32 = 113;
+
+const SPENT: u32 = 114;
+
 // An advance's number, whether its record is laid out, and what is laid out beside it.
 pub(crate) struct Told {
     pub number: u32,
@@ -37,11 +50,11 @@ fn told_of(answer: Answer) -> Told
 {
     match answer {
         Answer::Refused(n) => tells(n as u32, false, 0, 0, 0.0),
-        Answer::Full(made, count) => tells(20, true, count, made, 0.0),
-        Answer::Collapse(mass, count) => tells(21, true, count, 0, mass),
-        Answer::Broken(count) => tells(22, true, count, 0, 0.0),
-        Answer::Timeout(count) => tells(23, true, count, 0, 0.0),
-        Answer::Spent(count) => tells(24, true, count, 0, 0.0),
+        Answer::Full(made, count) => tells(FULL, true, count, made, 0.0),
+        Answer::Collapse(mass, count) => tells(COLLAPSE, true, count, 0, mass),
+        Answer::Broken(count) => tells(BROKEN, true, count, 0, 0.0),
+        Answer::Timeout(count) => tells(TIMEOUT, true, count, 0, 0.0),
+        Answer::Spent(count) => tells(SPENT, true, count, 0, 0.0),
     }
 }
 

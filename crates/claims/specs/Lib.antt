@@ -8,4 +8,5 @@ pub mod OrderExamples
 pub mod OrderForm
 pub mod OrderFormLaws
 pub mod Recovered
+pub mod RefusalNumbers
 pub mod ReportExamples

@@ -25,6 +25,7 @@ use Rattle.run.specs.Tally.{Reply, refused, full, ran}
 use Rattle.run.specs.Calls.{Began, refusedBegin, accepted, AfterBegin, beginOf, beginUses, AfterAdvance, advanceOf, advanceUses, framesTold, framesIn}
 use Rattle.run.specs.Order.{readOrder, budgetAt}
 use Rattle.run.specs.OrderLines.{budgetsFrom}
+use Rattle.run.specs.Report.{noRoomForText}
 use Rattle.run.specs.Lines.{Line, frame, refusal, refusalAt, textsOf, replyLines}
 
 -- ---- what is left of an order
@@ -79,9 +80,9 @@ pub data Answered : Type 0 where
   refusedCall : ℕ → Answered
   printed : (end : ℕ) → (next : Option Job) → Answered
 
--- 15, of our own: too little room for the lines (docs/DECISIONS.md)
+-- too little room for the lines
 abbrev pub answeredBy : Carried → Answered
-answeredBy NoRoom = refusedCall 15
+answeredBy NoRoom = refusedCall noRoomForText
 answeredBy (Last end) = printed end none
 answeredBy (More end j) = printed end (some j)
 
@@ -115,7 +116,7 @@ afterTurn t memory frames out =
 
 -- nothing is called and nothing written
 abbrev pub stayed : (memory frames : List Float) → (out : List ℕ) → AfterCall
-stayed memory frames out = record { answer = refusedCall 15; memory = memory; frames = frames; out = out }
+stayed memory frames out = record { answer = refusedCall noRoomForText; memory = memory; frames = frames; out = out }
 
 -- an advance of an order
 unfoldable pub goOnOf : Job → (order : List ℕ) → (memory work frames : List Float) → (out : List ℕ) → AfterCall

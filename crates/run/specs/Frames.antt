@@ -16,10 +16,12 @@ use Rattle.run.specs.declared.settings.Settings.{Settings}
 unfoldable pub samplesOf : ℕ → ℕ
 samplesOf dx = cond (leb dx 16) (2 ^ dx + 1) 0
 
--- "A frame is F = 2 + 9 × (2^d + 1) numbers"
-unfoldable pub frameSizeOf : Settings → ℕ
-unfolding samplesOf
-frameSizeOf s = 2 + 9 * samplesOf (s .«dx_level»)
+-- "A frame is F = 2 + 9 × (2^d + 1) numbers"; 0 for a dx level above 16
+unfoldable pub frameSizeAt : ℕ → ℕ
+frameSizeAt dx = cond (leb dx 16) (2 + 9 * (2 ^ dx + 1)) 0
+
+abbrev pub frameSizeOf : Settings → ℕ
+frameSizeOf s = frameSizeAt (s .«dx_level»)
 
 -- "Sample j is point j × 2^(L - d), where d is the dx level, for j = 0 to 2^d."
 unfoldable pub sampleOf : ℕ → ℕ → List Float → List Float

@@ -14,7 +14,7 @@ use Rattle.vectors.specs.GridLaws.{points-in}
 use Rattle.vectors.specs.MemoryLaws.{side, length-tab}
 use Rattle.physics.specs.State.{State}
 use Rattle.run.specs.declared.settings.Settings.{Settings}
-use Rattle.run.specs.Frames.{samplesOf, frameSizeOf, sampleOf, frameOf}
+use Rattle.run.specs.Frames.{samplesOf, frameSizeAt, frameSizeOf, sampleOf, frameOf}
 use Rattle.run.specs.InputsLaws.{Accepted}
 
 -- ---- the number of samples
@@ -37,22 +37,25 @@ unfolding sampleOf
 length-sample level dx xs = length-tab (samplesOf dx) _
 
 -- ---- the size of a frame
-pub frame-size : (s : Settings) → frameSizeOf s ≡ 2 + 9 * samplesOf (s .«dx_level»)
-unfolding frameSizeOf
-frame-size s = refl
+pub frame-size-in : (dx : ℕ) → dx ≤ 16 → frameSizeAt dx ≡ 2 + 9 * samplesOf dx
+unfolding frameSizeAt samplesOf
+frame-size-in dx h = rw (le-leb dx 16 h)
+
+pub frame-size-out : (dx : ℕ) → 16 < dx → frameSizeAt dx ≡ 0
+unfolding frameSizeAt
+frame-size-out dx h = rw (lt-leb dx 16 h)
+
+pub dx-most : {s : Settings} → Accepted s → s .«dx_level» ≤ 16
+dx-most a = omega (arith, a .dx, a .level .most)
 
 -- F of settings without fault, as 01 writes it
 pub frame-size-accepted : {s : Settings} → Accepted s → frameSizeOf s ≡ 2 + 9 * (2 ^ s .«dx_level» + 1)
-unfolding frameSizeOf
-frame-size-accepted {s} a = rw (samples-in (s .«dx_level») (omega (arith, a .dx, a .level .most)))
+unfolding frameSizeAt
+frame-size-accepted {s} a = rw (le-leb (s .«dx_level») 16 (dx-most a))
 
-pub frame-size-positive : (s : Settings) → 0 < frameSizeOf s
-unfolding frameSizeOf
-frame-size-positive s = omega arith
-
-pub length-frame : (s : Settings) (a : State) → length (frameOf s a) ≡ frameSizeOf s
-unfolding frameOf frameSizeOf
-length-frame s a = simp (length-append, length-sample) (omega arith)
+pub length-frame : {s : Settings} → Accepted s → (a : State) → length (frameOf s a) ≡ frameSizeOf s
+unfolding frameOf
+length-frame {s} sound a = simp (length-append, length-sample) (omega (arith, frame-size-in (s .«dx_level») (dx-most sound)))
 
 -- ---- samples are points
 pub sample-inside : {s : Settings} → Accepted s → (j : ℕ) → j < samplesOf (s .«dx_level») → j * 2 ^ (s .level - s .«dx_level») < pointsOf (s .level)
@@ -62,5 +65,5 @@ sample-inside {s} a j h =
     let l : d ≤ L = a .dx in
     let w : d + (L - d) ≡ L = omega arith in
     let p : 2 ^ L ≡ 2 ^ d * 2 ^ (L - d) = ap (λ (k : ℕ). 2 ^ k) (sym w) ∙ pow-add 2 d (L - d) in
-    let b : j ≤ 2 ^ d = omega (arith, samples-in d (omega (arith, a .level .most))) in
+    let b : j ≤ 2 ^ d = omega (arith, samples-in d (dx-most a)) in
     omega (arith, points-in (a .level), mul-le-mul-right (2 ^ (L - d)) b)

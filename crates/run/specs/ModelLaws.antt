@@ -13,7 +13,7 @@ use Rattle.physics.specs.State.{State}
 use Rattle.physics.specs.StateLaws.{Sized}
 use Rattle.run.specs.declared.settings.Settings.{Settings}
 use Rattle.run.specs.ClockLaws.{step-skipped}
-use Rattle.run.specs.FramesLaws.{frame-size-accepted, length-frame, frame-size-positive}
+use Rattle.run.specs.FramesLaws.{frame-size-accepted, length-frame}
 use Rattle.run.specs.InputsLaws.{Accepted, accepted}
 use Rattle.run.specs.Model.{faultAt, frameCount, firstState, deltaNext, framesNext, stepOf, nextState, frameOf}
 
@@ -35,7 +35,7 @@ module _ (s : Settings) (sound : faultAt s ≡ none) where
 
   pub frame-some : 0 < frameCount s
   unfolding frameCount
-  frame-some = frame-size-positive s
+  frame-some = omega (arith, frame-size-accepted sound-settings)
 
   pub frame-large : 6 ≤ frameCount s
   unfolding frameCount
@@ -51,4 +51,4 @@ module _ (s : Settings) (sound : faultAt s ≡ none) where
 
   pub frameOf-length : (a : State) → Sized (pointsOf (s .level)) a → length (frameOf s a) ≡ frameCount s
   unfolding frameOf frameCount
-  frameOf-length a z = length-frame s a
+  frameOf-length a z = length-frame sound-settings a

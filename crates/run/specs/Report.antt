@@ -109,20 +109,20 @@ pub record AfterWriting : Type 0 where
   pub answer : Reported
   pub bytes : List ℕ
 
--- the refusal of a text that there is too little room for; the number is ours, 01 has none
-abbrev pub noRoom : ℕ
-noRoom = 15
+-- the refusal of a text that there is too little room for, a number of our own (docs/DECISIONS.md): below 100 every number is a document's
+abbrev pub noRoomForText : ℕ
+noRoomForText = 100
 
 -- a text written from `at` on, or, where there is too little room, nothing
 unfoldable pub writing : ℕ → List ℕ → List ℕ → AfterWriting
 writing at text bytes =
     cond (leb (at + length text) (length bytes))
     (record { answer = endsAt (at + length text); bytes = put at text bytes })
-    (record { answer = refusedText noRoom; bytes = bytes })
+    (record { answer = refusedText noRoomForText; bytes = bytes })
 
 -- the number or value of each case of `Wrote`
 abbrev pub reportedOf : Wrote → Reported
-reportedOf wrote.NoRoom = refusedText noRoom
+reportedOf wrote.NoRoom = refusedText noRoomForText
 reportedOf (wrote.To end) = endsAt end
 
 abbrev pub afterWriting : Wrote → List ℕ → AfterWriting

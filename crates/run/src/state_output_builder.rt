@@ -31,10 +31,13 @@ const LAPSE: usize = 6;
 
 const CHAR_SPEED: usize = 7;
 
-// The numbers of a frame.
+// The numbers of a frame; 0 for a dx level above 16.
 pub fn frame_size(s: Settings) -> usize
     ensures { λ r. ⌜ r ≡ frameSizeOf s ⌝ }
 {
+    if 16 < s.dx_level {
+        return 0;
+    }
     2 + 9 * samples(s.dx_level)
 }
 

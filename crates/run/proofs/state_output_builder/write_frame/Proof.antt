@@ -14,7 +14,7 @@ use Rattle.vectors.specs.StencilLaws.{length-diffOf}
 use Rattle.physics.specs.State.{stateIn}
 use Rattle.run.specs.declared.settings.Settings.{Settings}
 use Rattle.run.specs.Frames.{samplesOf, frameOf}
-use Rattle.run.specs.FramesLaws.{frame-size}
+use Rattle.run.specs.FramesLaws.{frame-size-in, dx-most}
 use Rattle.run.specs.FrameWriting.{Vectors, FrameRoom, sampling-points, outputOf, output-frame}
 use Rattle.run.specs.WriteLaws.{Wrote, drop-put, wrote-length}
 use Rattle.run.proofs.state_output_builder.Shifts.{shifted}
@@ -44,7 +44,7 @@ module _ {s : Settings} {state work₀ frames₀ : List Float} {at n count step 
   vectors = record { sampling = rw (r .spaced, r .points, r .samples) (sampling-points (r .room .settings)); state = omega (arith, r .room .state, r .points) }
 
   frames-room : at + (2 + 9 * count) ≤ length frames₀
-  frames-room = omega (arith, r .room .frames, frame-size s, r .samples)
+  frames-room = omega (arith, r .room .frames, frame-size-in (s .«dx_level») (dx-most (r .room .settings)), r .samples)
 
   module _ {from : ℕ} {work : List Float} (wrote : Wrote from (gradientOf s n state) work₀ work) where
     held-is : held from n work ≡ gradientOf s n state

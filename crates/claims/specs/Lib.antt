@@ -1,6 +1,8 @@
+pub mod EndedStays
 pub mod Examples
 pub mod FlatSpace
 pub mod LaterCalls
+pub mod LongerMemory
 pub mod NanLaws
 pub mod NoNanFrames
 pub mod NotEmpty
@@ -10,3 +12,4 @@ pub mod OrderFormLaws
 pub mod Recovered
 pub mod RefusalNumbers
 pub mod ReportExamples
+pub mod Simulate

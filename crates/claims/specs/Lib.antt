@@ -24,3 +24,5 @@ pub mod RefusedNumber
 pub mod ReportExamples
 pub mod SettingPlacesLaws
 pub mod Simulate
+pub mod WholeOutput
+pub mod WholeOutputLaws

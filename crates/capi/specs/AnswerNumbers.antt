@@ -8,10 +8,10 @@ use Prim.Native.Nat.{ℕ, zero, suc, _+_}
 use lib.Dec.{eqb, ltb, leb}
 use lib.Ieee.{Float}
 use lib.ListN.{length}
-use Rattle.run.specs.Calls.{Stop, machineOf, AfterBegin, beginRefusal, beginOf, AfterAdvance, advanceRefusal, advanceOf, isFull, attemptsFrom}
+use Rattle.run.specs.Calls.{Stop, recordOf, machineOf, withState, withFrames, refusedBegin, accepted, AfterBegin, beginRefusal, beginOf, AfterAdvance, leftBy, advanceRefusal, advanceOf, isFull, attemptsFrom}
 use Rattle.run.specs.Outcome.{Outcome, collapse, broke, timeout, spent}
-use Rattle.run.specs.PlainRun.{Machine, option, outcomeOf, attempt}
-use Rattle.run.specs.Tally.{full, ran}
+use Rattle.run.specs.PlainRun.{Machine, option, start, outcomeOf, attempt}
+use Rattle.run.specs.Tally.{refused, full, ran}
 use Rattle.run.specs.declared.settings.Settings.{Settings}
 use Rattle.run.specs.declared.settings.Record.{Record}
 use Rattle.run.specs.Report.{noRoomForText}
@@ -73,11 +73,11 @@ attempts-numbers s room (suc left) made m = go (isFull s room m) (attempts-numbe
 joined-left : (n : ℕ) (xs ys : List ℕ) → among xs n ≡ true → among (xs ++ ys) n ≡ true
 unfolding among
 joined-left n [] ys e = absurd (false≢true e)
-joined-left n (x ∷ xs) ys e = go (eqb n x) e
+joined-left n (x ∷ xs) ys e = go (eqb n x) e (joined-left n xs ys)
   where
-    go : (b : Bool) → (b || among xs n) ≡ true → (b || among (xs ++ ys) n) ≡ true
-    go true h = refl
-    go false h = joined-left n xs ys h
+    go : (b : Bool) → (b || among xs n) ≡ true → (among xs n ≡ true → among (xs ++ ys) n ≡ true) → (b || among (xs ++ ys) n) ≡ true
+    go true h later = refl
+    go false h later = later h
 
 joined-right : (n : ℕ) (xs ys : List ℕ) → among ys n ≡ true → among (xs ++ ys) n ≡ true
 joined-right n [] ys e = e
@@ -92,9 +92,23 @@ answered number xs numbers none refusing other f g e = g
 answered number xs numbers (some n) refusing other f g e = f n e
 
 module _ (slice memory work frames : List Float) where
+  begun-number : (s : Settings) → among (0 ∷ noRecordNumber ∷ beginRefusals) (beganNumber (beginOf s memory work frames .answer)) ≡ true
+  unfolding beginOf beganNumber among
+  begun-number s =
+      answered (λ (b : AfterBegin). beganNumber (b .answer)) beginRefusals (0 ∷ noRecordNumber ∷ beginRefusals)
+      (beginRefusal s (length memory) (length work) (length frames))
+      (λ n. record { answer = refusedBegin n; memory = memory; frames = frames })
+      (record {
+        answer = accepted (recordOf s (start s)) (length (start s .frames));
+        memory = withState (start s .state) memory;
+        frames = withFrames (start s .frames) frames;
+      })
+      (λ n e. among-longer 0 n (noRecordNumber ∷ beginRefusals) (among-longer noRecordNumber n beginRefusals e)) refl
+      (begin-refusals s (length memory) (length work) (length frames))
+
   -- begin: 0, no record, or a refusal that 01 lists for it
   pub begin-number : among (0 ∷ noRecordNumber ∷ beginRefusals) (beginCall slice memory work frames .number) ≡ true
-  unfolding beginCall beganCall beganNumber beginOf noRecord among
+  unfolding beginCall beganCall noRecord among
   begin-number = go (settingsIn slice)
     where
       go : (o : Option Settings) →
@@ -102,14 +116,26 @@ module _ (slice memory work frames : List Float) where
           (option o (λ s. beganCall slice (beginOf s memory work frames)) (noRecord slice memory frames) .number)
           ≡ true
       go none = refl
-      go (some s) =
-          answered (λ (b : AfterBegin). beganNumber (b .answer)) beginRefusals _ (beginRefusal s (length memory) (length work) (length frames)) _ _
-          (λ n e. among-longer 0 n _ (among-longer noRecordNumber n beginRefusals e)) refl
-          (begin-refusals s (length memory) (length work) (length frames))
+      go (some s) = begun-number s
+
+  advanced-number : (budget : ℕ) (r : Record) →
+      among (noRecordNumber ∷ (advanceRefusals ++ attemptsNumbers)) (toldOf (advanceOf r memory work frames budget .reply) .number) ≡ true
+  unfolding advanceOf toldOf among
+  advanced-number budget r =
+      let stop = attemptsFrom (r .settings) (length frames) budget 0 (machineOf r memory) in
+      answered (λ (d : AfterAdvance). toldOf (d .reply) .number) advanceRefusals (noRecordNumber ∷ (advanceRefusals ++ attemptsNumbers))
+      (advanceRefusal r memory (length work) budget)
+      (λ n. record { reply = refused n; record′ = r; memory = memory; frames = frames })
+      (leftBy (r .settings) memory frames stop)
+      (λ n e. among-longer noRecordNumber n (advanceRefusals ++ attemptsNumbers) (joined-left n advanceRefusals attemptsNumbers e))
+      (among-longer noRecordNumber (toldOf (stop .reply) .number) (advanceRefusals ++ attemptsNumbers)
+      (joined-right (toldOf (stop .reply) .number) advanceRefusals attemptsNumbers
+      (attempts-numbers (r .settings) (length frames) budget 0 (machineOf r memory))))
+      (advance-refusals r memory (length work) budget)
 
   -- advance: no record, a refusal that 01 lists for it, or how the run stands
   pub advance-number : (budget : ℕ) → among (noRecordNumber ∷ (advanceRefusals ++ attemptsNumbers)) (advanceCall slice memory work frames budget .number) ≡ true
-  unfolding advanceCall advancedCall advanceOf noRecord toldOf among
+  unfolding advanceCall advancedCall noRecord among
   advance-number budget = go (recordIn slice)
     where
       go : (o : Option Record) →
@@ -117,9 +143,4 @@ module _ (slice memory work frames : List Float) where
           (option o (λ r. advancedCall slice (advanceOf r memory work frames budget)) (noRecord slice memory frames) .number)
           ≡ true
       go none = refl
-      go (some r) =
-          answered (λ (d : AfterAdvance). toldOf (d .reply) .number) advanceRefusals _ (advanceRefusal r memory (length work) budget) _ _
-          (λ n e. among-longer noRecordNumber n _ (joined-left n advanceRefusals attemptsNumbers e))
-          (among-longer noRecordNumber _ _ (joined-right _ advanceRefusals attemptsNumbers
-          (attempts-numbers (r .settings) (length frames) budget 0 (machineOf r memory))))
-          (advance-refusals r memory (length work) budget)
+      go (some r) = advanced-number budget r

@@ -2,12 +2,16 @@
 use mathlib.Core.Path.{_≡_, refl}
 use mathlib.Core.Bool.{false}
 use Prim.Native.Nat.{ℕ}
-use lib.IntN.{pos}
+use lib.IntN.{ℤ, pos, negℤ}
 use lib.Ieee.{Float, binary64, round, ofBits, ofInt}
 
 -- a whole number as a float
 abbrev pub whole : ℕ → Float
 whole k = ofInt binary64 (pos k)
+
+-- -k: `less 25` is -25
+abbrev pub less : ℕ → ℤ
+less k = negℤ (pos k)
 
 -- the float nearest to a / b
 abbrev pub nearestTo : ℕ → ℕ → Float

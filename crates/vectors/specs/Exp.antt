@@ -4,7 +4,7 @@ use Prim.Native.Nat.{ℕ, _-_, _*_, _/_, _%_, _^_}
 use lib.IntN.{ℤ, pos, negsuc, negℤ}
 use lib.Ieee.{Float, nan, inf, fin, binary64, up, down, add, sub, mul, div, le, ofInt, ofBits, isNan}
 use lib.Ieee.Nearest.{closest}
-use Rattle.vectors.specs.Constants.{whole}
+use Rattle.vectors.specs.Constants.{whole, less}
 use Rattle.vectors.specs.ExpTable.{mantissaOf}
 
 -- "the whole number nearest .., ties to even": `closest a b` is the one nearest to a/b, and `fin s m e`, which is ± m × 2^e, is ± (m × up e)/(down e).
@@ -72,5 +72,5 @@ unfolding scaledSeries multipleOf
 expOf x =
     cond (isNan x) nan
     (cond (le (whole 709) x) (inf false)
-    (cond (le x (ofInt binary64 (negsuc 707))) (fin false 0 (pos 0))
+    (cond (le x (ofInt binary64 (less 708))) (fin false 0 (pos 0))
     (scaledSeries x (multipleOf x))))

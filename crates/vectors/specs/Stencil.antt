@@ -6,7 +6,7 @@ use lib.IntN.{ℤ, pos, negsuc}
 use lib.Dec.{eqb, ltb}
 use lib.ListN.{length, getD, drop, set}
 use lib.Ieee.{Float, nan, binary64, add, mul, div, ofInt, minus}
-use Rattle.vectors.specs.Constants.{whole}
+use Rattle.vectors.specs.Constants.{whole, less}
 use Rattle.vectors.specs.Memory.{tab}
 
 -- which difference a row belongs to
@@ -31,39 +31,39 @@ placeOf row i j = cond (row .descends) (i + row .lead - j) (i + j - row .lead)
 
 -- `diff`: at points 0 and 1, inside, at n - 2 and n - 1
 unfoldable pub diffLeft0 : Row
-diffLeft0 = record { kind = first; descends = false; lead = 0; weights = negsuc 24 ∷ pos 48 ∷ negsuc 35 ∷ pos 16 ∷ negsuc 2 ∷ [] }
+diffLeft0 = record { kind = first; descends = false; lead = 0; weights = less 25 ∷ pos 48 ∷ less 36 ∷ pos 16 ∷ less 3 ∷ [] }
 
 unfoldable pub diffLeft1 : Row
-diffLeft1 = record { kind = first; descends = false; lead = 1; weights = negsuc 2 ∷ negsuc 9 ∷ pos 18 ∷ negsuc 5 ∷ pos 1 ∷ [] }
+diffLeft1 = record { kind = first; descends = false; lead = 1; weights = less 3 ∷ less 10 ∷ pos 18 ∷ less 6 ∷ pos 1 ∷ [] }
 
 unfoldable pub diffInner : Row
-diffInner = record { kind = first; descends = false; lead = 2; weights = pos 1 ∷ negsuc 7 ∷ pos 0 ∷ pos 8 ∷ negsuc 0 ∷ [] }
+diffInner = record { kind = first; descends = false; lead = 2; weights = pos 1 ∷ less 8 ∷ pos 0 ∷ pos 8 ∷ less 1 ∷ [] }
 
 unfoldable pub diffRight1 : Row
-diffRight1 = record { kind = first; descends = false; lead = 3; weights = negsuc 0 ∷ pos 6 ∷ negsuc 17 ∷ pos 10 ∷ pos 3 ∷ [] }
+diffRight1 = record { kind = first; descends = false; lead = 3; weights = less 1 ∷ pos 6 ∷ less 18 ∷ pos 10 ∷ pos 3 ∷ [] }
 
 unfoldable pub diffRight0 : Row
-diffRight0 = record { kind = first; descends = false; lead = 4; weights = pos 3 ∷ negsuc 15 ∷ pos 36 ∷ negsuc 47 ∷ pos 25 ∷ [] }
+diffRight0 = record { kind = first; descends = false; lead = 4; weights = pos 3 ∷ less 16 ∷ pos 36 ∷ less 48 ∷ pos 25 ∷ [] }
 
 -- `diff2`, likewise; the rows at the right go from n - 1 to the left
 unfoldable pub diff2Left0 : Row
-diff2Left0 = record { kind = second; descends = false; lead = 0; weights = pos 45 ∷ negsuc 153 ∷ pos 214 ∷ negsuc 155 ∷ pos 61 ∷ negsuc 9 ∷ [] }
+diff2Left0 = record { kind = second; descends = false; lead = 0; weights = pos 45 ∷ less 154 ∷ pos 214 ∷ less 156 ∷ pos 61 ∷ less 10 ∷ [] }
 
 unfoldable pub diff2Left1 : Row
-diff2Left1 = record { kind = second; descends = false; lead = 1; weights = pos 10 ∷ negsuc 14 ∷ negsuc 3 ∷ pos 14 ∷ negsuc 5 ∷ pos 1 ∷ [] }
+diff2Left1 = record { kind = second; descends = false; lead = 1; weights = pos 10 ∷ less 15 ∷ less 4 ∷ pos 14 ∷ less 6 ∷ pos 1 ∷ [] }
 
 unfoldable pub diff2Inner : Row
-diff2Inner = record { kind = second; descends = false; lead = 2; weights = negsuc 0 ∷ pos 16 ∷ negsuc 29 ∷ pos 16 ∷ negsuc 0 ∷ [] }
+diff2Inner = record { kind = second; descends = false; lead = 2; weights = less 1 ∷ pos 16 ∷ less 30 ∷ pos 16 ∷ less 1 ∷ [] }
 
 unfoldable pub diff2Right1 : Row
-diff2Right1 = record { kind = second; descends = true; lead = 1; weights = pos 10 ∷ negsuc 14 ∷ negsuc 3 ∷ pos 14 ∷ negsuc 5 ∷ pos 1 ∷ [] }
+diff2Right1 = record { kind = second; descends = true; lead = 1; weights = pos 10 ∷ less 15 ∷ less 4 ∷ pos 14 ∷ less 6 ∷ pos 1 ∷ [] }
 
 unfoldable pub diff2Right0 : Row
-diff2Right0 = record { kind = second; descends = true; lead = 0; weights = pos 45 ∷ negsuc 153 ∷ pos 214 ∷ negsuc 155 ∷ pos 61 ∷ negsuc 9 ∷ [] }
+diff2Right0 = record { kind = second; descends = true; lead = 0; weights = pos 45 ∷ less 154 ∷ pos 214 ∷ less 156 ∷ pos 61 ∷ less 10 ∷ [] }
 
 -- `diff3_unnormalized`, about the centre of its seven points
 unfoldable pub diff3Row : Row
-diff3Row = record { kind = third; descends = false; lead = 3; weights = pos 1 ∷ negsuc 7 ∷ pos 13 ∷ pos 0 ∷ negsuc 12 ∷ pos 8 ∷ negsuc 0 ∷ [] }
+diff3Row = record { kind = third; descends = false; lead = 3; weights = pos 1 ∷ less 8 ∷ pos 13 ∷ pos 0 ∷ less 13 ∷ pos 8 ∷ less 1 ∷ [] }
 
 -- ---- a row at a point
 

@@ -18,6 +18,7 @@ pub mod PositionLaws
 pub mod Powers
 pub mod RowLaws
 pub mod RowSums
+pub mod RowsUsed
 pub mod Sign
 pub mod Stencil
 pub mod StencilLaws

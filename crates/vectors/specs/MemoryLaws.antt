@@ -1,6 +1,6 @@
 -- Laws of `tab`, `part` and `put`, and the invariants of loops that write a memory point by point.
 use mathlib.Core.Path.{_≡_, refl, sym, ap, _∙_, subst}
-use mathlib.Core.List.{List, [], _∷_, _++_, append-assoc}
+use mathlib.Core.List.{List, [], _∷_, _++_, map, append-assoc, List·Memᴰ, List·Memᴰ·not-nil, List·Memᴰ·cases-cons}
 use Prim.Native.Nat.{ℕ, zero, suc, _+_, _-_, _≤_, _<_}
 use native.Mathlib.Nat.{zero-add, add-zero, add-suc, suc-add, le-of-suc-le-suc, not-suc-le-zero, eq-or-lt-of-le}
 use native.Mathlib.Numerals.{add-one}
@@ -20,6 +20,14 @@ by-cases false f g = inr (g refl)
 
 pub side : (k a : ℕ) → (k < a) ⊎ (a ≤ k)
 side k a = by-cases (ltb k a) (ltb-true k a) (ltb-false k a)
+
+-- where two functions agree on a list they agree on each of its elements
+pub same-at : {A B : Type 0} (f g : A → B) (list : List A) (x : A) → map f list ≡ map g list → List·Memᴰ x list → f x ≡ g x
+same-at f g [] x e m = absurd (List·Memᴰ·not-nil m)
+same-at f g (y ∷ list) x e m = elim (List·Memᴰ·cases-cons m) [
+  | inl p ↦ cc
+  | inr m' ↦ same-at f g list x (cc) m'
+]
 
 -- from a on m, and from b on n, have no place in common
 unfoldable pub apart : ℕ → ℕ → ℕ → ℕ → Bool

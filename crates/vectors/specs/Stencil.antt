@@ -2,21 +2,16 @@
 use mathlib.Core.Bool.{Bool, true, false, cond}
 use mathlib.Core.List.{List, [], _∷_}
 use Prim.Native.Nat.{ℕ, zero, suc, _+_, _-_}
-use lib.IntN.{ℤ, pos, negsuc}
+use lib.IntN.{ℤ, pos, negsuc, negℤ}
 use lib.Dec.{eqb, ltb}
 use lib.ListN.{length, getD, drop, set}
 use lib.Ieee.{Float, nan, binary64, add, mul, div, ofInt, minus}
 use Rattle.vectors.specs.Constants.{whole, less}
 use Rattle.vectors.specs.Memory.{tab}
 
--- which difference a row belongs to
-pub data Kind : Type 0 where
-  first second third : Kind
-
 -- A row of weights. Weight 0 stands `lead` points to the left of the row's point and the weights go right; or, where the row descends,
 -- weight 0 stands `lead` points to the right of it and the weights go left.
 pub record Row : Type 0 where
-  pub kind : Kind
   pub descends : Bool
   pub lead : ℕ
   pub weights : List ℤ
@@ -31,43 +26,44 @@ placeOf row i j = cond (row .descends) (i + row .lead - j) (i + j - row .lead)
 
 -- `diff`: at points 0 and 1, inside, at n - 2 and n - 1
 unfoldable pub diffLeft0 : Row
-diffLeft0 = record { kind = first; descends = false; lead = 0; weights = less 25 ∷ pos 48 ∷ less 36 ∷ pos 16 ∷ less 3 ∷ [] }
+diffLeft0 = record { descends = false; lead = 0; weights = less 25 ∷ pos 48 ∷ less 36 ∷ pos 16 ∷ less 3 ∷ [] }
 
 unfoldable pub diffLeft1 : Row
-diffLeft1 = record { kind = first; descends = false; lead = 1; weights = less 3 ∷ less 10 ∷ pos 18 ∷ less 6 ∷ pos 1 ∷ [] }
+diffLeft1 = record { descends = false; lead = 1; weights = less 3 ∷ less 10 ∷ pos 18 ∷ less 6 ∷ pos 1 ∷ [] }
 
 unfoldable pub diffInner : Row
-diffInner = record { kind = first; descends = false; lead = 2; weights = pos 1 ∷ less 8 ∷ pos 0 ∷ pos 8 ∷ less 1 ∷ [] }
+diffInner = record { descends = false; lead = 2; weights = pos 1 ∷ less 8 ∷ pos 0 ∷ pos 8 ∷ less 1 ∷ [] }
 
 unfoldable pub diffRight1 : Row
-diffRight1 = record { kind = first; descends = false; lead = 3; weights = less 1 ∷ pos 6 ∷ less 18 ∷ pos 10 ∷ pos 3 ∷ [] }
+diffRight1 = record { descends = false; lead = 3; weights = less 1 ∷ pos 6 ∷ less 18 ∷ pos 10 ∷ pos 3 ∷ [] }
 
 unfoldable pub diffRight0 : Row
-diffRight0 = record { kind = first; descends = false; lead = 4; weights = pos 3 ∷ less 16 ∷ pos 36 ∷ less 48 ∷ pos 25 ∷ [] }
+diffRight0 = record { descends = false; lead = 4; weights = pos 3 ∷ less 16 ∷ pos 36 ∷ less 48 ∷ pos 25 ∷ [] }
 
 -- `diff2`, likewise; the rows at the right go from n - 1 to the left
 unfoldable pub diff2Left0 : Row
-diff2Left0 = record { kind = second; descends = false; lead = 0; weights = pos 45 ∷ less 154 ∷ pos 214 ∷ less 156 ∷ pos 61 ∷ less 10 ∷ [] }
+diff2Left0 = record { descends = false; lead = 0; weights = pos 45 ∷ less 154 ∷ pos 214 ∷ less 156 ∷ pos 61 ∷ less 10 ∷ [] }
 
 unfoldable pub diff2Left1 : Row
-diff2Left1 = record { kind = second; descends = false; lead = 1; weights = pos 10 ∷ less 15 ∷ less 4 ∷ pos 14 ∷ less 6 ∷ pos 1 ∷ [] }
+diff2Left1 = record { descends = false; lead = 1; weights = pos 10 ∷ less 15 ∷ less 4 ∷ pos 14 ∷ less 6 ∷ pos 1 ∷ [] }
 
 unfoldable pub diff2Inner : Row
-diff2Inner = record { kind = second; descends = false; lead = 2; weights = less 1 ∷ pos 16 ∷ less 30 ∷ pos 16 ∷ less 1 ∷ [] }
+diff2Inner = record { descends = false; lead = 2; weights = less 1 ∷ pos 16 ∷ less 30 ∷ pos 16 ∷ less 1 ∷ [] }
 
 unfoldable pub diff2Right1 : Row
-diff2Right1 = record { kind = second; descends = true; lead = 1; weights = pos 10 ∷ less 15 ∷ less 4 ∷ pos 14 ∷ less 6 ∷ pos 1 ∷ [] }
+diff2Right1 = record { descends = true; lead = 1; weights = pos 10 ∷ less 15 ∷ less 4 ∷ pos 14 ∷ less 6 ∷ pos 1 ∷ [] }
 
 unfoldable pub diff2Right0 : Row
-diff2Right0 = record { kind = second; descends = true; lead = 0; weights = pos 45 ∷ less 154 ∷ pos 214 ∷ less 156 ∷ pos 61 ∷ less 10 ∷ [] }
+diff2Right0 = record { descends = true; lead = 0; weights = pos 45 ∷ less 154 ∷ pos 214 ∷ less 156 ∷ pos 61 ∷ less 10 ∷ [] }
 
 -- `diff3_unnormalized`, about the centre of its seven points
 unfoldable pub diff3Row : Row
-diff3Row = record { kind = third; descends = false; lead = 3; weights = pos 1 ∷ less 8 ∷ pos 13 ∷ pos 0 ∷ less 13 ∷ pos 8 ∷ less 1 ∷ [] }
+diff3Row = record { descends = false; lead = 3; weights = pos 1 ∷ less 8 ∷ pos 13 ∷ pos 0 ∷ less 13 ∷ pos 8 ∷ less 1 ∷ [] }
 
 -- ---- a row at a point
 
--- the products of the weights from weight j on, "w × v", in the row's order; a weight 0 has none
+-- The products w × v of the weights from weight j on, in the row's order; a weight 0 has none. The file writes v for 1 × v, and a - w × v for
+-- a + (-w) × v: a product with 1 or -1 does not round, and a difference is the sum with the number of the other sign.
 unfoldable pub productsFrom : Row → List Float → ℕ → ℕ → List ℤ → List Float
 productsFrom row xs i j [] = []
 productsFrom row xs i j (pos zero ∷ ws) = productsFrom row xs i (suc j) ws
@@ -144,10 +140,12 @@ unfoldable pub diff3Of : List Float → List Float
 unfolding diff3At tab
 diff3Of xs = tab (length xs) (diff3At xs)
 
--- `set_left_neumann_bc`: entry 0 becomes the value at which the row of `diff` at point 0 sums to zero, which is what its other weights sum to, over 25
+-- `set_left_neumann_bc`: entry 0 becomes the value at which the row of `diff` at point 0 sums to zero: the sum of its other products over minus
+-- weight 0, which is 25
 unfoldable pub neumannOf : List Float → Float
 unfolding total productsFrom diffLeft0
-neumannOf xs = div binary64 (total (productsFrom diffLeft0 xs 0 1 (drop 1 (diffLeft0 .weights)))) (whole 25)
+neumannOf xs =
+    div binary64 (total (productsFrom diffLeft0 xs 0 1 (drop 1 (diffLeft0 .weights)))) (ofInt binary64 (negℤ (getD (diffLeft0 .weights) 0 (pos 0))))
 
 abbrev pub withLeftNeumann : List Float → List Float
 withLeftNeumann xs = set xs 0 (neumannOf xs)

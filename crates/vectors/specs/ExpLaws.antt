@@ -3,7 +3,7 @@ use mathlib.Core.Path.{_≡_, refl, sym, ap, _∙_, subst}
 use mathlib.Core.Logic.{_⊎_, inl, inr}
 use mathlib.Core.Bool.{Bool, true, false, not, cond, true≢false}
 use Prim.Native.Nat.{ℕ, zero, suc, _+_, _-_, _*_, _/_, _%_, _^_, _≤_, _<_, compare, Ordering, Ordering·lt, Ordering·eq, Ordering·gt}
-use native.Mathlib.Nat.{div-add-mod', mod-lt, add-mul, mul-le-mul-right, one-mul, mul-assoc, mul-pos, mul-lt-mul-of-pos-right, pow-le-pow-left, le-trans, lt-of-lt-of-le, lt-of-not-le, le-of-suc-le-suc, not-le-of-lt}
+use native.Mathlib.Nat.{div-add-mod', mod-lt, add-mul, mul-le-mul-right, one-mul, mul-assoc, mul-pos, mul-lt-mul-of-pos-right, pow-le-pow-left, le-trans, lt-of-lt-of-le, lt-of-not-le, not-le-of-lt}
 use native.Mathlib.Omega.{arith}
 use lib.Arith.{lt-of-le-ne}
 use lib.Dec.{T, isLe, isEq, eqb, leb→le, nleb→lt, eqb→eq, eqb-refl}
@@ -125,11 +125,7 @@ quotient256-remainder256 (negsuc n) =
 -- ---- T_j
 -- an entry of the table has 53 binary digits
 pub mantissa-least : (j : ℕ) → j < 256 → 2 ^ 52 ≤ mantissaOf j
-mantissa-least j h =
-    let reached : (2 ^ 52) ^ 256 ≤ 2 ^ (j + 52 * 256) = pow-mono {i = 52 * 256} (omega arith) in
-    le-of-suc-le-suc (lt-of-not-le (λ (g : mantissaOf j < 2 ^ 52).
-    let next : mantissaOf j + 1 ≤ 2 ^ 52 = omega arith in
-    not-le-of-lt (mantissa-largest j h .next) (le-trans (pow-le-pow-left next 256) reached)))
+mantissa-least j h = mantissa-largest j h .none-larger (2 ^ 52) (pow-mono {i = 52 * 256} (omega arith))
 
 pub mantissa-below : (j : ℕ) → j < 256 → mantissaOf j < 2 ^ 53
 mantissa-below j h =

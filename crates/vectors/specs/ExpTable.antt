@@ -3,7 +3,8 @@ use mathlib.Core.Path.{_∙_, subst, sym}
 use mathlib.Core.Bool.{Bool, true, false, _&&_}
 use mathlib.Core.List.{List, [], _∷_}
 use Prim.Native.Nat.{ℕ, zero, suc, _+_, _*_, _^_, _≤_, _<_}
-use native.Mathlib.Nat.{add-zero, zero-add, add-suc, suc-add, le-of-suc-le-suc, not-suc-le-zero}
+use native.Mathlib.Nat.{add-zero, zero-add, add-suc, suc-add, le-of-suc-le-suc, not-suc-le-zero, le-trans, not-le-of-lt, lt-of-not-le, pow-le-pow-left}
+use native.Mathlib.Omega.{arith}
 use lib.Dec.{T, leb, ltb, leb→le, ltb→lt}
 use lib.Ieee.Fits.{and-l, and-r}
 use lib.ListN.{length, getD}
@@ -11,8 +12,9 @@ use lib.ListN.{length, getD}
 -- m is the largest whole number with m^256 ≤ 2^(j + 52 × 256)
 pub record Largest (j m : ℕ) : Type 0 where
   pub reached : m ^ 256 ≤ 2 ^ (j + 52 * 256)
-  pub next : 2 ^ (j + 52 * 256) < (m + 1) ^ 256
+  pub none-larger : (k : ℕ) → k ^ 256 ≤ 2 ^ (j + 52 * 256) → k ≤ m
 
+-- the m of T_0 to T_255
 unfoldable pub mantissas : List ℕ
 mantissas =
     0x10000000000000 ∷ 0x100B1AFA5ABCBE ∷ 0x10163DA9FB3335 ∷ 0x102168143B0280 ∷
@@ -85,7 +87,7 @@ unfoldable pub mantissaOf : ℕ → ℕ
 unfolding mantissas
 mantissaOf j = getD mantissas j 0
 
--- ---- the rule at every entry, by one test over the whole list, which antt computes
+-- ---- the rule at every entry, by one test over the whole list, which antt computes: m is such a number and m + 1 is not
 right : ℕ → ℕ → Bool
 right j m = leb (m ^ 256) (2 ^ (j + 52 * 256)) && ltb (2 ^ (j + 52 * 256)) ((m + 1) ^ 256)
 
@@ -112,9 +114,12 @@ largest j m t =
     let b = ltb (2 ^ (j + 52 * 256)) ((m + 1) ^ 256) in
     record {
       reached = leb→le (m ^ 256) (2 ^ (j + 52 * 256)) (and-l a b t);
-      next = ltb→lt (2 ^ (j + 52 * 256)) ((m + 1) ^ 256) (and-r a b t);
+      none-larger = λ k h. le-of-suc-le-suc (lt-of-not-le (λ (g : m < k).
+          let next : m + 1 ≤ k = omega arith in
+          not-le-of-lt (ltb→lt (2 ^ (j + 52 * 256)) ((m + 1) ^ 256) (and-r a b t)) (le-trans (pow-le-pow-left next 256) h)));
     }
 
+-- "m the largest whole number with m^256 <= 2^(j + 52 × 256)"
 pub mantissa-largest : (j : ℕ) → j < 256 → Largest j (mantissaOf j)
 unfolding mantissaOf
 mantissa-largest j h = largest j (mantissaOf j) (subst (λ (i : ℕ). T (right i (mantissaOf j))) (zero-add j) (from right mantissas 0 all-right j h))

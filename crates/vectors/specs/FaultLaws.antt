@@ -44,13 +44,13 @@ and-true false y e = absurd (true≢false (sym e))
 
 -- two memories of one number for each point
 pub record BothFit (level a b : ℕ) : Type 0 where
-  pub first : a ≡ pointsOf level
-  pub second : b ≡ pointsOf level
+  pub one : a ≡ pointsOf level
+  pub other : b ≡ pointsOf level
 
 both-of : (level a b : ℕ) → bothFit level a b ≡ true → BothFit level a b
 both-of level a b e =
     let h = and-true (eqb a (pointsOf level)) (eqb b (pointsOf level)) e in
-    record { first = eqb-true a (pointsOf level) (h .0); second = eqb-true b (pointsOf level) (h .1) }
+    record { one = eqb-true a (pointsOf level) (h .0); other = eqb-true b (pointsOf level) (h .1) }
 
 -- what an accepted call on two memories, or on three, was lent
 module _ (level a b : ℕ) {answer : Answer} (told : answer ≡ Done) where

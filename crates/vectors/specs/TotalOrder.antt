@@ -10,7 +10,7 @@ use lib.Ieee.{Float, nan, inf, fin, up, down}
 abbrev pub smaller : ℕ → ℤ → ℕ → ℤ → Bool
 smaller m e n d = ltb (m * up e * down d) (n * up d * down e)
 
--- the first comes before the second; a sign is true where it is negative
+-- the left one comes before the right one; a sign is true where it is negative
 unfoldable pub totalLess : Float → Float → Bool
 totalLess nan y = false
 totalLess (inf s) nan = true

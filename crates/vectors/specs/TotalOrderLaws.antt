@@ -129,13 +129,13 @@ totalLess-connected (fin false m e) (fin true n d) f g h k = absurd (true≢fals
 totalLess-connected (fin false m e) (fin false n d) f g h k = equal-bits (fin false m e) (fin false n d) f g (same-bits false m e n d h k)
 
 -- ---- the lesser of two
-pub lesserOf-second : (a b : Float) → totalLess b a ≡ true → lesserOf a b ≡ b
+pub lesserOf-right : (a b : Float) → totalLess b a ≡ true → lesserOf a b ≡ b
 unfolding lesserOf
-lesserOf-second a b h = rw h
+lesserOf-right a b h = rw h
 
-pub lesserOf-first : (a b : Float) → totalLess b a ≡ false → lesserOf a b ≡ a
+pub lesserOf-left : (a b : Float) → totalLess b a ≡ false → lesserOf a b ≡ a
 unfolding lesserOf
-lesserOf-first a b h = rw h
+lesserOf-left a b h = rw h
 
 pub lesserOf-nan-left : (b : Float) → lesserOf nan b ≡ b
 unfolding lesserOf totalLess
@@ -151,10 +151,10 @@ pub lesserOf-assoc : (a b c : Float) → lesserOf (lesserOf a b) c ≡ lesserOf 
 lesserOf-assoc a b c = go (totalLess b a) (totalLess c b) refl refl
   where
     go : (p q : Bool) → totalLess b a ≡ p → totalLess c b ≡ q → lesserOf (lesserOf a b) c ≡ lesserOf a (lesserOf b c)
-    go true true h k = rw (lesserOf-second a b h, lesserOf-second b c k) (sym (lesserOf-second a c (totalLess-transitive c b a k h)))
-    go true false h k = rw (lesserOf-second a b h, lesserOf-first b c k) (sym (lesserOf-second a b h))
-    go false true h k = rw (lesserOf-first a b h, lesserOf-second b c k)
-    go false false h k = rw (lesserOf-first a b h, lesserOf-first b c k) (lesserOf-first a c (totalLess-neither c b a k h) ∙ sym (lesserOf-first a b h))
+    go true true h k = rw (lesserOf-right a b h, lesserOf-right b c k) (sym (lesserOf-right a c (totalLess-transitive c b a k h)))
+    go true false h k = rw (lesserOf-right a b h, lesserOf-left b c k) (sym (lesserOf-right a b h))
+    go false true h k = rw (lesserOf-left a b h, lesserOf-right b c k)
+    go false false h k = rw (lesserOf-left a b h, lesserOf-left b c k) (lesserOf-left a c (totalLess-neither c b a k h) ∙ sym (lesserOf-left a b h))
 
 -- ---- the minimum
 -- an index at which the minimum stands
@@ -166,8 +166,8 @@ minimumOf-among x (y ∷ ys) = go (totalLess (minimumOf (y ∷ ys)) x) refl (min
     go : (b : Bool) → totalLess (minimumOf (y ∷ ys)) x ≡ b
         → (i : ℕ) × (i < length (y ∷ ys)) × (getD (y ∷ ys) i nan ≡ minimumOf (y ∷ ys))
         → (i : ℕ) × (i < length (x ∷ y ∷ ys)) × (getD (x ∷ y ∷ ys) i nan ≡ lesserOf x (minimumOf (y ∷ ys)))
-    go true h r = (suc (r .0), suc-le-suc (r .1), r .2 ∙ sym (lesserOf-second x (minimumOf (y ∷ ys)) h))
-    go false h r = (0, zero-lt-suc (length (y ∷ ys)), sym (lesserOf-first x (minimumOf (y ∷ ys)) h))
+    go true h r = (suc (r .0), suc-le-suc (r .1), r .2 ∙ sym (lesserOf-right x (minimumOf (y ∷ ys)) h))
+    go false h r = (0, zero-lt-suc (length (y ∷ ys)), sym (lesserOf-left x (minimumOf (y ∷ ys)) h))
 
 -- no element is below the minimum
 pub minimumOf-least : (xs : List Float) (i : ℕ) → i < length xs → totalLess (getD xs i nan) (minimumOf xs) ≡ false
@@ -178,10 +178,10 @@ minimumOf-least (x ∷ xs) i l = go (totalLess (minimumOf xs) x) refl (λ j h. m
     go : (b : Bool) → totalLess (minimumOf xs) x ≡ b
         → ((j : ℕ) → j < length xs → totalLess (getD xs j nan) (minimumOf xs) ≡ false)
         → (i : ℕ) → i < length (x ∷ xs) → totalLess (getD (x ∷ xs) i nan) (lesserOf x (minimumOf xs)) ≡ false
-    go true h rest zero l = rw (lesserOf-second x (minimumOf xs) h) (totalLess-asymmetric (minimumOf xs) x h)
-    go true h rest (suc j) l = rw (lesserOf-second x (minimumOf xs) h) (rest j (le-of-suc-le-suc l))
-    go false h rest zero l = rw (lesserOf-first x (minimumOf xs) h) (totalLess-irreflexive x)
-    go false h rest (suc j) l = rw (lesserOf-first x (minimumOf xs) h) (totalLess-neither (getD xs j nan) (minimumOf xs) x (rest j (le-of-suc-le-suc l)) h)
+    go true h rest zero l = rw (lesserOf-right x (minimumOf xs) h) (totalLess-asymmetric (minimumOf xs) x h)
+    go true h rest (suc j) l = rw (lesserOf-right x (minimumOf xs) h) (rest j (le-of-suc-le-suc l))
+    go false h rest zero l = rw (lesserOf-left x (minimumOf xs) h) (totalLess-irreflexive x)
+    go false h rest (suc j) l = rw (lesserOf-left x (minimumOf xs) h) (totalLess-neither (getD xs j nan) (minimumOf xs) x (rest j (le-of-suc-le-suc l)) h)
 
 -- an element that none is below is the minimum
 pub minimumOf-unique : (x : Float) (xs : List Float) (j : ℕ) → j < length (x ∷ xs)

@@ -13,7 +13,7 @@ use borrow.Author.Tests.{ltb-true, ltb-false, eqb-true, le-ltb, eq-eqb}
 use Rattle.vectors.specs.Powers.{one}
 use Rattle.vectors.specs.Sign.{signOf}
 use Rattle.vectors.specs.TotalOrder.{totalLess, lesserOf}
-use Rattle.vectors.specs.TotalOrderLaws.{lesserOf-first, lesserOf-second, lesserOf-nan-left}
+use Rattle.vectors.specs.TotalOrderLaws.{lesserOf-left, lesserOf-right, lesserOf-nan-left}
 
 abbrev pub nought : Float
 nought = fin false 0 (pos 0)
@@ -26,9 +26,9 @@ sign-below (inf s) h = sym h
 sign-below (fin true m e) h = refl
 sign-below (fin false m e) h = absurd (omega (arith, ltb-true (m * up e * 1) (0 * down e) h))
 
-and-first : (a b : Bool) → a && b ≡ true → a ≡ true
-and-first true b h = refl
-and-first false b h = h
+and-left : (a b : Bool) → a && b ≡ true → a ≡ true
+and-left true b h = refl
+and-left false b h = h
 
 pub sign-at-zero : (x : Float) → eq x nought ≡ true → lt (div binary64 one x) nought ≡ signOf x
 unfolding eq lt div
@@ -37,7 +37,7 @@ sign-at-zero (inf s) h = absurd (false≢true h)
 sign-at-zero (fin true zero e) h = refl
 sign-at-zero (fin false zero e) h = refl
 sign-at-zero (fin s (suc m) e) h =
-    let z = eqb-true (suc m * up e * 1) (0 * down e) (and-first (eqb (suc m * up e * 1) (0 * down e)) _ h) in
+    let z = eqb-true (suc m * up e * 1) (0 * down e) (and-left (eqb (suc m * up e * 1) (0 * down e)) _ h) in
     absurd (omega (arith, mul-pos (zero-lt-suc m) (up-pos e)))
 
 pub sign-above : (x : Float) → lt x nought ≡ false → eq x nought ≡ false → false ≡ signOf x
@@ -68,70 +68,70 @@ above-or-level a b t h = go (ltb b a) (eqb a b) (λ p. le-of-lt (ltb-true b a p)
     go false true f g h = g refl
     go false false f g h = absurd (false≢true h)
 
-first-negative : (m x : Float) → le m x ≡ true → signOf m ≡ true → totalLess x m ≡ false
+left-negative : (m x : Float) → le m x ≡ true → signOf m ≡ true → totalLess x m ≡ false
 unfolding le totalLess
-first-negative nan x h s = absurd (false≢true s)
-first-negative (inf false) x h s = absurd (false≢true s)
-first-negative (inf true) nan h s = refl
-first-negative (inf true) (inf true) h s = refl
-first-negative (inf true) (inf false) h s = refl
-first-negative (inf true) (fin t n d) h s = refl
-first-negative (fin false m e) x h s = absurd (false≢true s)
-first-negative (fin true m e) nan h s = refl
-first-negative (fin true m e) (inf true) h s = absurd (false≢true h)
-first-negative (fin true m e) (inf false) h s = refl
-first-negative (fin true m e) (fin true n d) h s =
+left-negative nan x h s = absurd (false≢true s)
+left-negative (inf false) x h s = absurd (false≢true s)
+left-negative (inf true) nan h s = refl
+left-negative (inf true) (inf true) h s = refl
+left-negative (inf true) (inf false) h s = refl
+left-negative (inf true) (fin t n d) h s = refl
+left-negative (fin false m e) x h s = absurd (false≢true s)
+left-negative (fin true m e) nan h s = refl
+left-negative (fin true m e) (inf true) h s = absurd (false≢true h)
+left-negative (fin true m e) (inf false) h s = refl
+left-negative (fin true m e) (fin true n d) h s =
     le-ltb (m * up e * down d) (n * up d * down e) (above-or-level (m * up e * down d) (n * up d * down e) _ h)
-first-negative (fin true m e) (fin false n d) h s = refl
+left-negative (fin true m e) (fin false n d) h s = refl
 
-second-positive : (m x : Float) → le m x ≡ true → signOf x ≡ false → totalLess x m ≡ false
+right-positive : (m x : Float) → le m x ≡ true → signOf x ≡ false → totalLess x m ≡ false
 unfolding le totalLess
-second-positive nan x h s = absurd (false≢true h)
-second-positive (inf t) nan h s = refl
-second-positive (inf t) (inf true) h s = absurd (true≢false s)
-second-positive (inf t) (inf false) h s = refl
-second-positive (inf true) (fin t n d) h s = refl
-second-positive (inf false) (fin t n d) h s = absurd (false≢true h)
-second-positive (fin t m e) nan h s = refl
-second-positive (fin t m e) (inf true) h s = absurd (true≢false s)
-second-positive (fin t m e) (inf false) h s = refl
-second-positive (fin t m e) (fin true n d) h s = absurd (true≢false s)
-second-positive (fin true m e) (fin false n d) h s = refl
-second-positive (fin false m e) (fin false n d) h s =
+right-positive nan x h s = absurd (false≢true h)
+right-positive (inf t) nan h s = refl
+right-positive (inf t) (inf true) h s = absurd (true≢false s)
+right-positive (inf t) (inf false) h s = refl
+right-positive (inf true) (fin t n d) h s = refl
+right-positive (inf false) (fin t n d) h s = absurd (false≢true h)
+right-positive (fin t m e) nan h s = refl
+right-positive (fin t m e) (inf true) h s = absurd (true≢false s)
+right-positive (fin t m e) (inf false) h s = refl
+right-positive (fin t m e) (fin true n d) h s = absurd (true≢false s)
+right-positive (fin true m e) (fin false n d) h s = refl
+right-positive (fin false m e) (fin false n d) h s =
     le-ltb (n * up d * down e) (m * up e * down d) (below-or-level (m * up e * down d) (n * up d * down e) _ h)
 
 and-last : (a b : Bool) → a && b ≡ true → b ≡ true
 and-last true b h = h
 and-last false b h = absurd (false≢true h)
 
--- a positive first is at most a negative second only where both are zeros
-first-zero : (m x : Float) → le m x ≡ true → signOf m ≡ false → signOf x ≡ true → ne m nought ≡ false
+-- a positive left one is at most a negative right one only where both are zeros
+left-zero : (m x : Float) → le m x ≡ true → signOf m ≡ false → signOf x ≡ true → ne m nought ≡ false
 unfolding le ne
-first-zero nan x h s t = absurd (false≢true h)
-first-zero (inf true) x h s t = absurd (true≢false s)
-first-zero (inf false) nan h s t = absurd (false≢true h)
-first-zero (inf false) (inf true) h s t = absurd (false≢true h)
-first-zero (inf false) (inf false) h s t = absurd (false≢true t)
-first-zero (inf false) (fin u n d) h s t = absurd (false≢true h)
-first-zero (fin true m e) x h s t = absurd (true≢false s)
-first-zero (fin false m e) nan h s t = absurd (false≢true t)
-first-zero (fin false m e) (inf true) h s t = absurd (false≢true h)
-first-zero (fin false m e) (inf false) h s t = absurd (false≢true t)
-first-zero (fin false m e) (fin false n d) h s t = absurd (false≢true t)
-first-zero (fin false m e) (fin true n d) h s t =
+left-zero nan x h s t = absurd (false≢true h)
+left-zero (inf true) x h s t = absurd (true≢false s)
+left-zero (inf false) nan h s t = absurd (false≢true h)
+left-zero (inf false) (inf true) h s t = absurd (false≢true h)
+left-zero (inf false) (inf false) h s t = absurd (false≢true t)
+left-zero (inf false) (fin u n d) h s t = absurd (false≢true h)
+left-zero (fin true m e) x h s t = absurd (true≢false s)
+left-zero (fin false m e) nan h s t = absurd (false≢true t)
+left-zero (fin false m e) (inf true) h s t = absurd (false≢true h)
+left-zero (fin false m e) (inf false) h s t = absurd (false≢true t)
+left-zero (fin false m e) (fin false n d) h s t = absurd (false≢true t)
+left-zero (fin false m e) (fin true n d) h s t =
     let a = m * up e * down d in
     let z = eqb-true a 0 (and-last (eqb a (n * up d * down e)) (eqb a 0) h) in
     let y : m * up e ≤ 0 = le-of-mul-le-mul-right (omega arith) (down-pos d) in
     let b : eqb (m * up e * 1) (0 * down e) ≡ true = eq-eqb (m * up e * 1) (0 * down e) (omega arith) in
     rw b
 
-first-not-zero : (m x : Float) → le m x ≡ true → ne m nought ≡ true → totalLess x m ≡ false
-first-not-zero m x h n = go (signOf m) (signOf x) refl refl
+left-not-zero : (m x : Float) → le m x ≡ true → ne m nought ≡ true → totalLess x m ≡ false
+left-not-zero m x h n = go (signOf m) (signOf x) refl refl
   where
     go : (s t : Bool) → signOf m ≡ s → signOf x ≡ t → totalLess x m ≡ false
-    go true t p q = first-negative m x h p
-    go false false p q = second-positive m x h q
-    go false true p q = absurd (true≢false (sym n ∙ first-zero m x h p q))
+    go true t p q = left-negative m x h p
+    go false false p q = right-positive m x h q
+    go false true p q = absurd (true≢false (sym n ∙ left-zero m x h p q))
 
 unlike-signs : (m x : Float) → signOf m ≡ false → signOf x ≡ true → totalLess x m ≡ true
 unfolding totalLess
@@ -146,38 +146,38 @@ unlike-signs (inf u) (fin true n d) s t = ap not s
 unlike-signs (fin true m e) (fin true n d) s t = absurd (true≢false s)
 unlike-signs (fin false m e) (fin true n d) s t = refl
 
-second-less : (m x : Float) → lt x m ≡ true → totalLess x m ≡ true
+right-less : (m x : Float) → lt x m ≡ true → totalLess x m ≡ true
 unfolding lt totalLess
-second-less m nan h = absurd (false≢true h)
-second-less nan (inf t) h = refl
-second-less (inf s) (inf true) h = h
-second-less (inf s) (inf false) h = h
-second-less (fin s m e) (inf t) h = h
-second-less nan (fin t n d) h = refl
-second-less (inf s) (fin t n d) h = h
-second-less (fin true m e) (fin true n d) h = h
-second-less (fin true m e) (fin false n d) h = h
-second-less (fin false m e) (fin true n d) h = refl
-second-less (fin false m e) (fin false n d) h = h
+right-less m nan h = absurd (false≢true h)
+right-less nan (inf t) h = refl
+right-less (inf s) (inf true) h = h
+right-less (inf s) (inf false) h = h
+right-less (fin s m e) (inf t) h = h
+right-less nan (fin t n d) h = refl
+right-less (inf s) (fin t n d) h = h
+right-less (fin true m e) (fin true n d) h = h
+right-less (fin true m e) (fin false n d) h = h
+right-less (fin false m e) (fin true n d) h = refl
+right-less (fin false m e) (fin false n d) h = h
 
 -- what is neither below a number nor at or above it is a NaN
-second-nan : (m x : Float) → le m x ≡ false → lt x m ≡ false → ne m m ≡ false → totalLess x m ≡ false
+right-nan : (m x : Float) → le m x ≡ false → lt x m ≡ false → ne m m ≡ false → totalLess x m ≡ false
 unfolding le ne totalLess
-second-nan m nan h k n = refl
-second-nan nan (inf t) h k n = absurd (true≢false n)
-second-nan nan (fin t b d) h k n = absurd (true≢false n)
-second-nan (inf true) (inf true) h k n = refl
-second-nan (inf true) (inf false) h k n = refl
-second-nan (inf false) (inf true) h k n = absurd (true≢false k)
-second-nan (inf false) (inf false) h k n = refl
-second-nan (inf true) (fin t b d) h k n = refl
-second-nan (inf false) (fin t b d) h k n = absurd (true≢false k)
-second-nan (fin s a e) (inf true) h k n = absurd (true≢false k)
-second-nan (fin s a e) (inf false) h k n = refl
-second-nan (fin true a e) (fin true b d) h k n = k
-second-nan (fin true a e) (fin false b d) h k n = refl
-second-nan (fin false a e) (fin false b d) h k n = k
-second-nan (fin false a e) (fin true b d) h k n =
+right-nan m nan h k n = refl
+right-nan nan (inf t) h k n = absurd (true≢false n)
+right-nan nan (fin t b d) h k n = absurd (true≢false n)
+right-nan (inf true) (inf true) h k n = refl
+right-nan (inf true) (inf false) h k n = refl
+right-nan (inf false) (inf true) h k n = absurd (true≢false k)
+right-nan (inf false) (inf false) h k n = refl
+right-nan (inf true) (fin t b d) h k n = refl
+right-nan (inf false) (fin t b d) h k n = absurd (true≢false k)
+right-nan (fin s a e) (inf true) h k n = absurd (true≢false k)
+right-nan (fin s a e) (inf false) h k n = refl
+right-nan (fin true a e) (fin true b d) h k n = k
+right-nan (fin true a e) (fin false b d) h k n = refl
+right-nan (fin false a e) (fin false b d) h k n = k
+right-nan (fin false a e) (fin true b d) h k n =
     let z = ltb-false 0 (b * up d * down e + a * up e * down d) k in
     let p : eqb (a * up e * down d) (b * up d * down e) ≡ true = eq-eqb (a * up e * down d) (b * up d * down e) (omega arith) in
     let q : eqb (a * up e * down d) 0 ≡ true = eq-eqb (a * up e * down d) 0 (omega arith) in
@@ -185,22 +185,22 @@ second-nan (fin false a e) (fin true b d) h k n =
 
 module _ (m x : Float) where
   pub keeps-not-zero : le m x ≡ true → ne m nought ≡ true → m ≡ lesserOf m x
-  keeps-not-zero h n = sym (lesserOf-first m x (first-not-zero m x h n))
+  keeps-not-zero h n = sym (lesserOf-left m x (left-not-zero m x h n))
 
   pub keeps-negative : le m x ≡ true → signOf m ≡ true → m ≡ lesserOf m x
-  keeps-negative h s = sym (lesserOf-first m x (first-negative m x h s))
+  keeps-negative h s = sym (lesserOf-left m x (left-negative m x h s))
 
   pub keeps-before-positive : le m x ≡ true → signOf x ≡ false → m ≡ lesserOf m x
-  keeps-before-positive h s = sym (lesserOf-first m x (second-positive m x h s))
+  keeps-before-positive h s = sym (lesserOf-left m x (right-positive m x h s))
 
   pub takes-negative : signOf m ≡ false → signOf x ≡ true → x ≡ lesserOf m x
-  takes-negative s t = sym (lesserOf-second m x (unlike-signs m x s t))
+  takes-negative s t = sym (lesserOf-right m x (unlike-signs m x s t))
 
   pub takes-less : lt x m ≡ true → x ≡ lesserOf m x
-  takes-less h = sym (lesserOf-second m x (second-less m x h))
+  takes-less h = sym (lesserOf-right m x (right-less m x h))
 
   pub takes-for-nan : ne m m ≡ true → x ≡ lesserOf m x
   takes-for-nan h = sym (ap (λ (z : Float). lesserOf z x) (differs-from-itself m (subst T (sym h) tt)) ∙ lesserOf-nan-left x)
 
   pub keeps-before-nan : le m x ≡ false → lt x m ≡ false → ne m m ≡ false → m ≡ lesserOf m x
-  keeps-before-nan h k n = sym (lesserOf-first m x (second-nan m x h k n))
+  keeps-before-nan h k n = sym (lesserOf-left m x (right-nan m x h k n))

@@ -11,7 +11,7 @@ core-requires : tie.Need-diff2-rows-requires
 core-requires c κs =
     let told = c .before .before in
     let fit = both-fit _ _ _ (told .enum-told .given .1) (told .before .before .checked-both .ensures) in
-    (omega (arith, fit .1 .first, points-least (fit .0)), fit .1 .second ∙ sym (fit .1 .first))
+    (omega (arith, fit .1 .one, points-least (fit .0)), fit .1 .other ∙ sym (fit .1 .one))
 
 returns : tie.Need-returns
 returns c =

@@ -7,9 +7,9 @@ use native.Mathlib.Nat.{add-zero, add-suc}
 use native.Mathlib.Omega.{arith}
 use borrow.Author.Tests.{eq-eqb, ne-eqb, lt-ltb, le-ltb}
 use lib.IntN.{ℤ, pos, negsuc}
-use lib.ListN.{length, getD}
+use lib.ListN.{length, getD, drop}
 use lib.Ieee.{Float, nan, binary64, add, mul, div, ofInt, ofBits}
-use Rattle.vectors.specs.Constants.{whole, less}
+use Rattle.vectors.specs.Constants.{whole}
 use Rattle.vectors.specs.Memory.{tab}
 use Rattle.vectors.specs.MemoryLaws.{length-tab}
 use Rattle.vectors.specs.RowSums.{sum4, sum5, sum5hollow, sum6, sum6descending, sum7hollow}
@@ -257,7 +257,7 @@ pub windows-right : (n : ℕ) → 9 ≤ n → Windows n (n - 3) n 6
 windows-right n h = record { ordered = omega arith; inside = omega arith; each = λ i a b. window-right n i h a b }
 
 -- the value that `set_left_neumann_bc` computes from the sum r of the row of four
-pub neumann-is : (xs : List Float) {r : Float} → r ≡ sum4 (pos 48 ∷ less 36 ∷ pos 16 ∷ less 3 ∷ []) xs 1 → div binary64 r twentyFive ≡ neumannOf xs
+pub neumann-is : (xs : List Float) {r : Float} → r ≡ sum4 (drop 1 (diffLeft0 .weights)) xs 1 → div binary64 r twentyFive ≡ neumannOf xs
 unfolding neumannOf total plus productsFrom diffLeft0
 neumann-is xs e = rw (e, twentyFive-is)
 

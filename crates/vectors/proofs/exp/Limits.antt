@@ -14,6 +14,7 @@ use lib.Ieee.Fits.{down-pos}
 use lib.Ieee.Compare.{differs-from-itself}
 use borrow.Author.Tests.{ltb-true, eqb-true, le-ltb, ne-eqb}
 use Rattle.vectors.specs.ExpInside.{Inside, InsideTo}
+use Rattle.vectors.specs.FaultLaws.{and-true}
 
 -- below is not at or above
 not-over : (a b : ℕ) (q t : Bool) → q ≡ false → b ≤ a → ltb a b || (q && t) ≡ false
@@ -56,19 +57,10 @@ is-number x y h = go (ne x x) refl
     go false e = e
     go true e = absurd (false≢true (ap (λ (z : Float). lt z y) (sym (differs-from-itself x (subst T (sym e) tt))) ∙ h))
 
-and-first : (a b : Bool) → a && b ≡ true → a ≡ true
-and-first true b h = refl
-and-first false b h = h
-
-and-last : (a b : Bool) → a && b ≡ true → b ≡ true
-and-last true b h = h
-and-last false b h = absurd (false≢true h)
-
 pub between-limits : (x : Float) → lt x (fin false 709 (pos 0)) && lt (fin true 177 (pos 2)) x ≡ true → Inside x
 between-limits x h =
-    let a = and-first (lt x (fin false 709 (pos 0))) (lt (fin true 177 (pos 2)) x) h in
-    let b = and-last (lt x (fin false 709 (pos 0))) (lt (fin true 177 (pos 2)) x) h in
-    record { number = is-number x (fin false 709 (pos 0)) a; under = under-709 x a; over = over-708 x b }
+    let both = and-true (lt x (fin false 709 (pos 0))) (lt (fin true 177 (pos 2)) x) h in
+    record { number = is-number x (fin false 709 (pos 0)) (both .0); under = under-709 x (both .0); over = over-708 x (both .1) }
 
 pub none : (xs : List Float) → InsideTo 0 xs
 none xs = record { at = λ k h. absurd (omega arith) }
@@ -76,8 +68,8 @@ none xs = record { at = λ k h. absurd (omega arith) }
 pub one-more : (a b : Bool) (n : ℕ) (xs : List Float) → (a ≡ true → InsideTo n xs) → (b ≡ true → Inside (getD xs n nan)) → a && b ≡ true → InsideTo (n + 1) xs
 one-more a b n xs f g h = record {
   at = λ k l. elim (last k l) [
-    | inl e ↦ subst (λ (i : ℕ). Inside (getD xs i nan)) (sym e) (g (and-last a b h))
-    | inr m ↦ f (and-first a b h) .at k m
+    | inl e ↦ subst (λ (i : ℕ). Inside (getD xs i nan)) (sym e) (g (and-true a b h .1))
+    | inr m ↦ f (and-true a b h .0) .at k m
   ];
 }
   where

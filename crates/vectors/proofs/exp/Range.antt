@@ -77,9 +77,9 @@ at-708 : round binary64 false (708 * scaleDigits) (2 ^ 43) ≡ fin false 8984576
 unfolding round
 at-708 = refl
 
-or-first : (a b : Bool) → a || b ≡ false → a ≡ false
-or-first true b h = h
-or-first false b h = refl
+or-left : (a b : Bool) → a || b ≡ false → a ≡ false
+or-left true b h = h
+or-left false b h = refl
 
 -- the code's three tests are false
 pub between : (x : Float) → ne x x ≡ false → le (fin false 709 (pos 0)) x ≡ false → le x (fin true 177 (pos 2)) ≡ false → Shifted (mul binary64 x scale)
@@ -88,8 +88,8 @@ between nan n a b = absurd (true≢false n)
 between (inf true) n a b = absurd (true≢false b)
 between (inf false) n a b = absurd (true≢false a)
 between (fin false m e) n a b =
-    let h = ltb-false (709 * down e) (m * up e * 1) (or-first (ltb (709 * down e) (m * up e * 1)) _ a) in
+    let h = ltb-false (709 * down e) (m * up e * 1) (or-left (ltb (709 * down e) (m * up e * 1)) _ a) in
     plus-shifted (mul binary64 (fin false m e) scale) (bounded false (m * up e) (down e) 709 8997266565677285 (negsuc 34) (down-pos e) (omega arith) at-709)
 between (fin true m e) n a b =
-    let h = ltb-false (708 * down e) (m * up e * 1) (or-first (ltb (708 * down e) (m * up e * 1)) _ b) in
+    let h = ltb-false (708 * down e) (m * up e * 1) (or-left (ltb (708 * down e) (m * up e * 1)) _ b) in
     less-shifted (mul binary64 (fin true m e) scale) (bounded true (m * up e) (down e) 708 8984576485894947 (negsuc 34) (down-pos e) (omega arith) at-708)

@@ -10,6 +10,7 @@ use lib.Ieee.{Float, nan, inf, fin, binary64, up, down, lt, le, eq, ne, div}
 use lib.Ieee.Fits.{up-pos, down-pos}
 use lib.Ieee.Compare.{differs-from-itself}
 use borrow.Author.Tests.{ltb-true, ltb-false, eqb-true, le-ltb, eq-eqb}
+use Rattle.vectors.specs.FaultLaws.{and-true}
 use Rattle.vectors.specs.Powers.{one}
 use Rattle.vectors.specs.Sign.{signOf}
 use Rattle.vectors.specs.TotalOrder.{totalLess, lesserOf}
@@ -26,10 +27,6 @@ sign-below (inf s) h = sym h
 sign-below (fin true m e) h = refl
 sign-below (fin false m e) h = absurd (omega (arith, ltb-true (m * up e * 1) (0 * down e) h))
 
-and-left : (a b : Bool) → a && b ≡ true → a ≡ true
-and-left true b h = refl
-and-left false b h = h
-
 pub sign-at-zero : (x : Float) → eq x nought ≡ true → lt (div binary64 one x) nought ≡ signOf x
 unfolding eq lt div
 sign-at-zero nan h = absurd (false≢true h)
@@ -37,7 +34,7 @@ sign-at-zero (inf s) h = absurd (false≢true h)
 sign-at-zero (fin true zero e) h = refl
 sign-at-zero (fin false zero e) h = refl
 sign-at-zero (fin s (suc m) e) h =
-    let z = eqb-true (suc m * up e * 1) (0 * down e) (and-left (eqb (suc m * up e * 1) (0 * down e)) _ h) in
+    let z = eqb-true (suc m * up e * 1) (0 * down e) (and-true (eqb (suc m * up e * 1) (0 * down e)) _ h .0) in
     absurd (omega (arith, mul-pos (zero-lt-suc m) (up-pos e)))
 
 pub sign-above : (x : Float) → lt x nought ≡ false → eq x nought ≡ false → false ≡ signOf x

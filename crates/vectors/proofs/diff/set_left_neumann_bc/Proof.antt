@@ -4,11 +4,13 @@ use native.Mathlib.Omega.{arith}
 use borrow.Author.Needs.{needs}
 use borrow.Author.Tests.{le-leb, lt-leb}
 use lib.ListN.{length, set}
+use Rattle.vectors.specs.Stencil.{diffLeft0}
 use Rattle.vectors.specs.StencilLaws.{neumann-is}
 use Rattle.vectors.proofs.diff.set_left_neumann_bc.Statement.{statement}
 use Rattle.vectors.proofs.diff.set_left_neumann_bc.Tie as tie
 
 pub set-left-neumann-bc-spec : {M : Type 1} → statement M
+unfolding diffLeft0
 set-left-neumann-bc-spec =
     tie.close
     (tie.spec

@@ -6,15 +6,15 @@ use mathlib.Core.Logic.{inl, inr}
 use mathlib.Core.List.{List, List·Memᴰ, List·Memᴰ·head as here, List·Memᴰ·tail as later, Memᴰ·append-left, Memᴰ·append-right}
 use Prim.Native.Nat.{ℕ, suc, _+_, _-_, _≤_, _<_}
 use native.Mathlib.Omega.{arith}
-use borrow.Author.Tests.{eqb-true, eqb-false, ltb-true, ltb-false, le-leb, lt-leb, le-ltb}
+use borrow.Author.Tests.{eqb-true, eqb-false, ltb-true, ltb-false, le-leb, lt-leb, lt-ltb, le-ltb}
 use lib.Dec.{T, eqb, leb, ltb, leb→le}
-use lib.Ieee.{minus}
+use lib.Ieee.{Float, minus}
 use lib.Ieee.Fits.{and-l, and-r}
 use lib.IntN.{ℤ, pos, _+ℤ_}
 use lib.ListN.{length}
 use Rattle.vectors.specs.MemoryLaws.{side}
 use Rattle.vectors.specs.Moments.{Meets, Asked, askedOf, rows, moment-conditions, diffMoments, diff2Moments, diff3Moments}
-use Rattle.vectors.specs.Stencil.{Row, offsetOf, placeOf, Rows, rowAt, diffRows, diff2Rows, inward, diffLeft0, diffLeft1, diffInner, diffRight1, diffRight0, diff2Left0, diff2Left1, diff2Inner, diff2Right1, diff2Right0, diff3Row}
+use Rattle.vectors.specs.Stencil.{Row, offsetOf, placeOf, Rows, rowAt, diffRows, diff2Rows, inward, diffLeft0, diffLeft1, diffInner, diffRight1, diffRight0, diff2Left0, diff2Left1, diff2Inner, diff2Right1, diff2Right0, diff3Row, diff3At}
 
 -- ---- the row of a point
 
@@ -144,3 +144,15 @@ diff3-placed n i enough below =
     either (λ (k : ℕ). Placed n k diff3Row) (ltb i (n - 3)) (λ e. let e' = ltb-true i (n - 3) e in at i (omega arith) (omega arith)) (λ b.
     let b' = ltb-false i (n - 3) b in
     at (i - 3) (omega arith) (omega arith)))
+
+-- ---- "Its first three and last three entries repeat the entry three points inward."
+
+module _ (xs : List Float) (i : ℕ) (enough : 9 ≤ length xs) where
+  pub diff3-repeats-left : i < 3 → diff3At xs i ≡ diff3At xs (i + 3)
+  unfolding diff3At
+  diff3-repeats-left h = rw (lt-ltb i 3 h, le-ltb (i + 3) 3 (omega arith), lt-ltb (i + 3) (length xs - 3) (omega arith))
+
+  pub diff3-repeats-right : length xs - 3 ≤ i → i < length xs → diff3At xs i ≡ diff3At xs (i - 3)
+  unfolding diff3At
+  diff3-repeats-right h below =
+      rw (le-ltb i 3 (omega arith), le-ltb i (length xs - 3) h, le-ltb (i - 3) 3 (omega arith), lt-ltb (i - 3) (length xs - 3) (omega arith))

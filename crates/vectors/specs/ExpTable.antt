@@ -82,7 +82,7 @@ mantissas =
     0x1F50765B6E4540 ∷ 0x1F6632798844F8 ∷ 0x1F7BFDAD9CBE13 ∷ 0x1F91D802243C88 ∷
     0x1FA7C1819E90D8 ∷ 0x1FBDBA3692D513 ∷ 0x1FD3C22B8F71F1 ∷ 0x1FE9D96B2A23D9 ∷ []
 
--- entry j
+-- m of T_j
 unfoldable pub mantissaOf : ℕ → ℕ
 unfolding mantissas
 mantissaOf j = getD mantissas j 0

@@ -24,35 +24,43 @@ offsetOf row j = cond (row .descends) (minus (row .lead) j) (minus j (row .lead)
 abbrev pub placeOf : Row → ℕ → ℕ → ℕ
 placeOf row i j = cond (row .descends) (i + row .lead - j) (i + j - row .lead)
 
--- `diff`: at points 0 and 1, inside, at n - 2 and n - 1
+-- `diff` at point 0
 unfoldable pub diffLeft0 : Row
 diffLeft0 = record { descends = false; lead = 0; weights = less 25 ∷ pos 48 ∷ less 36 ∷ pos 16 ∷ less 3 ∷ [] }
 
+-- at point 1
 unfoldable pub diffLeft1 : Row
 diffLeft1 = record { descends = false; lead = 1; weights = less 3 ∷ less 10 ∷ pos 18 ∷ less 6 ∷ pos 1 ∷ [] }
 
+-- inside
 unfoldable pub diffInner : Row
 diffInner = record { descends = false; lead = 2; weights = pos 1 ∷ less 8 ∷ pos 0 ∷ pos 8 ∷ less 1 ∷ [] }
 
+-- at point n - 2
 unfoldable pub diffRight1 : Row
 diffRight1 = record { descends = false; lead = 3; weights = less 1 ∷ pos 6 ∷ less 18 ∷ pos 10 ∷ pos 3 ∷ [] }
 
+-- at point n - 1
 unfoldable pub diffRight0 : Row
 diffRight0 = record { descends = false; lead = 4; weights = pos 3 ∷ less 16 ∷ pos 36 ∷ less 48 ∷ pos 25 ∷ [] }
 
--- `diff2`, likewise; the rows at the right go from n - 1 to the left
+-- `diff2` at point 0
 unfoldable pub diff2Left0 : Row
 diff2Left0 = record { descends = false; lead = 0; weights = pos 45 ∷ less 154 ∷ pos 214 ∷ less 156 ∷ pos 61 ∷ less 10 ∷ [] }
 
+-- at point 1
 unfoldable pub diff2Left1 : Row
 diff2Left1 = record { descends = false; lead = 1; weights = pos 10 ∷ less 15 ∷ less 4 ∷ pos 14 ∷ less 6 ∷ pos 1 ∷ [] }
 
+-- inside
 unfoldable pub diff2Inner : Row
 diff2Inner = record { descends = false; lead = 2; weights = less 1 ∷ pos 16 ∷ less 30 ∷ pos 16 ∷ less 1 ∷ [] }
 
+-- at point n - 2, from n - 1 to the left
 unfoldable pub diff2Right1 : Row
 diff2Right1 = record { descends = true; lead = 1; weights = pos 10 ∷ less 15 ∷ less 4 ∷ pos 14 ∷ less 6 ∷ pos 1 ∷ [] }
 
+-- at point n - 1, to the left
 unfoldable pub diff2Right0 : Row
 diff2Right0 = record { descends = true; lead = 0; weights = pos 45 ∷ less 154 ∷ pos 214 ∷ less 156 ∷ pos 61 ∷ less 10 ∷ [] }
 
@@ -96,10 +104,12 @@ pub record Rows : Type 0 where
   pub right1 : Row
   pub right0 : Row
 
+-- those of `diff`
 unfoldable pub diffRows : Rows
 unfolding diffLeft0 diffLeft1 diffInner diffRight1 diffRight0
 diffRows = record { left0 = diffLeft0; left1 = diffLeft1; inner = diffInner; right1 = diffRight1; right0 = diffRight0 }
 
+-- those of `diff2`
 unfoldable pub diff2Rows : Rows
 unfolding diff2Left0 diff2Left1 diff2Inner diff2Right1 diff2Right0
 diff2Rows = record { left0 = diff2Left0; left1 = diff2Left1; inner = diff2Inner; right1 = diff2Right1; right0 = diff2Right0 }
@@ -114,6 +124,7 @@ unfoldable pub diffAt : Float → List Float → ℕ → Float
 unfolding sumAt rowAt diffRows
 diffAt h xs i = div binary64 (sumAt (rowAt diffRows (length xs) i) xs i) (mul binary64 (whole 12) h)
 
+-- `diff` at every point
 unfoldable pub diffOf : Float → List Float → List Float
 unfolding diffAt tab
 diffOf h xs = tab (length xs) (diffAt h xs)
@@ -123,6 +134,7 @@ unfoldable pub diff2At : Float → List Float → ℕ → Float
 unfolding sumAt rowAt diff2Rows
 diff2At h xs i = div binary64 (sumAt (rowAt diff2Rows (length xs) i) xs i) (mul binary64 (whole 12) (mul binary64 h h))
 
+-- `diff2` at every point
 unfoldable pub diff2Of : Float → List Float → List Float
 unfolding diff2At tab
 diff2Of h xs = tab (length xs) (diff2At h xs)
@@ -136,6 +148,7 @@ unfoldable pub diff3At : List Float → ℕ → Float
 unfolding sumAt diff3Row
 diff3At xs i = div binary64 (sumAt diff3Row xs (inward (length xs) i)) (whole 8)
 
+-- `diff3_unnormalized` at every point
 unfoldable pub diff3Of : List Float → List Float
 unfolding diff3At tab
 diff3Of xs = tab (length xs) (diff3At xs)
@@ -147,5 +160,6 @@ unfolding total productsFrom diffLeft0
 neumannOf xs =
     div binary64 (total (productsFrom diffLeft0 xs 0 1 (drop 1 (diffLeft0 .weights)))) (ofInt binary64 (negℤ (getD (diffLeft0 .weights) 0 (pos 0))))
 
+-- the vector with that entry 0
 abbrev pub withLeftNeumann : List Float → List Float
 withLeftNeumann xs = set xs 0 (neumannOf xs)

@@ -261,6 +261,7 @@ pub neumann-is : (xs : List Float) {r : Float} → r ≡ sum4 (drop 1 (diffLeft0
 unfolding neumannOf total plus productsFrom diffLeft0
 neumann-is xs e = rw (e, twentyFive-is)
 
+-- a difference has one number for each point
 pub length-diffOf : (h : Float) (xs : List Float) → length (diffOf h xs) ≡ length xs
 unfolding diffOf
 length-diffOf h xs = length-tab (length xs) (diffAt h xs)

@@ -12,6 +12,7 @@ pub mod InitialPasses
 pub mod InitialState
 pub mod Integral
 pub mod IntegralLaws
+pub mod IntegralRules
 pub mod Nan
 pub mod NanLaws
 pub mod NeighbourLaws
@@ -19,7 +20,7 @@ pub mod PassLaws
 pub mod Passes
 pub mod Quadrature
 pub mod Rk4
-pub mod RulesUsed
+pub mod Rk4Tableau
 pub mod Sizes
 pub mod Slots
 pub mod State
@@ -32,5 +33,6 @@ pub mod Tableau
 pub mod TotalEnergy
 pub mod Vector
 pub mod VectorLaws
+pub mod WeighedSum
 pub mod WorkAfter
 pub mod WorkLaws

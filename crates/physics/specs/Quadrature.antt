@@ -5,8 +5,9 @@ use mathlib.Core.Logic.{inl, inr}
 use mathlib.Core.List.{List, [], _∷_, map, List·Memᴰ, List·Memᴰ·not-nil, List·Memᴰ·cases-cons}
 use Prim.Native.Nat.{ℕ, suc, _+_, _*_, _^_, _≤_}
 use native.Mathlib.Omega.{arith}
-use lib.IntN.{ℤ, pos, negsuc, _+ℤ_, _*ℤ_, one, pow}
+use lib.IntN.{ℤ, pos, _+ℤ_, _*ℤ_, one, pow}
 use lib.ListN.{getD}
+use Rattle.vectors.specs.Constants.{less}
 use Rattle.vectors.specs.Memory.{tabFrom, tab}
 use Rattle.vectors.specs.MemoryLaws.{getD-tab}
 
@@ -21,7 +22,7 @@ pub record Quadrature : Type 0 where
 
 -- the quadratic rule: the parabola through three points, integrated over the first interval (the weights of two-step Adams-Moulton)
 unfoldable pub entry1Weights : List ℤ
-entry1Weights = pos 5 ∷ pos 8 ∷ negsuc 0 ∷ []
+entry1Weights = pos 5 ∷ pos 8 ∷ less 1 ∷ []
 
 -- Simpson's 1/3 rule: the parabola through three points, over both intervals
 unfoldable pub simpsonWeights : List ℤ

@@ -14,34 +14,35 @@ use Rattle.vectors.specs.Powers.{reciprocalOf}
 use Rattle.vectors.specs.Stencil.{diffOf}
 use Rattle.physics.specs.Integral.{integralOf}
 use Rattle.physics.specs.Constraints.{normalisedOf, radialGradientOf, integrandOf, lapseOf, radialFactorOf, charSpeedOf, energyDensityOf, massOf}
+use Rattle.physics.specs.SlotNumbers.{fieldSlot, momentumSlot, energyDensitySlot, massSlot, radialFactorSlot, lapseSlot, charSpeedSlot, gradientSlot, scratchSlot, integralSlot, pointsSlot, slotCount}
 use Rattle.physics.specs.Slots.{Slots, slots, upd, Became, known, wrote2, length-slot}
 use Rattle.physics.specs.Vector.{at}
 use Rattle.physics.specs.VectorLaws.{tab-same, tab-map, map-map}
 use Rattle.physics.specs.Passes.{integrands, logLapses, exps, normals, lapseOn, lapses, gradients, radialVal, speedVal, energyVal, massVal, radials, radialFactors, energies, constraints, fullConstraints}
 
 -- what the loop of `normals` leaves, where factor is 1 over the last
-pub normals-wrote : (n : ℕ) (w w' : List Float) (factor : Float) → factor ≡ reciprocalOf (at (slots n w 6) (n - 1)) → 21 * n ≤ length w
-    → w' ≡ put (9 * n) (tab n (λ j. reciprocalOf (mul binary64 factor (at (slots n w 6) j)))) (put (6 * n) (tab n (λ j. mul binary64 factor (at (slots n w 6) j))) w) → Became n normals w w'
+pub normals-wrote : (n : ℕ) (w w' : List Float) (factor : Float) → factor ≡ reciprocalOf (at (slots n w lapseSlot) (n - 1)) → slotCount * n ≤ length w
+    → w' ≡ put (scratchSlot * n) (tab n (λ j. reciprocalOf (mul binary64 factor (at (slots n w lapseSlot) j)))) (put (lapseSlot * n) (tab n (λ j. mul binary64 factor (at (slots n w lapseSlot) j))) w) → Became n normals w w'
 unfolding normalisedOf
 normals-wrote n w w' factor e h p =
-    let xs = slots n w 6 in
-    let l : length xs ≡ n = length-slot n 6 w (omega arith) in
+    let xs = slots n w lapseSlot in
+    let l : length xs ≡ n = length-slot n lapseSlot w (omega arith) in
     let k : factor ≡ reciprocalOf (at xs (length xs - 1)) = rw l e in
     let f : tab n (λ j. mul binary64 factor (at xs j)) ≡ normalisedOf xs = tab-map n (mul binary64 factor) xs l ∙ rw k in
     let g : tab n (λ j. reciprocalOf (mul binary64 factor (at xs j))) ≡ map reciprocalOf (normalisedOf xs) =
     tab-map n (λ x. reciprocalOf (mul binary64 factor x)) xs l ∙ map-map reciprocalOf (mul binary64 factor) xs ∙ rw k in
     let m : length (normalisedOf xs) ≡ n = length-map xs _ ∙ l in
-    wrote2 n 6 9 (λ S. normalisedOf (S 6)) (λ S. map reciprocalOf (normalisedOf (S 6))) w w' m (length-map (normalisedOf xs) _ ∙ m) (omega arith) (omega arith) (rw (f, g) at p)
+    wrote2 n lapseSlot scratchSlot (λ S. normalisedOf (S lapseSlot)) (λ S. map reciprocalOf (normalisedOf (S lapseSlot))) w w' m (length-map (normalisedOf xs) _ ∙ m) (omega arith) (omega arith) (rw (f, g) at p)
 
 -- what the loop of `radials` leaves, where first is entry 0 of the integral
-pub radials-wrote : (n : ℕ) (w w' : List Float) (first : Float) → first ≡ at (slots n w 10) 0 → 21 * n ≤ length w
-    → w' ≡ put (7 * n) (tab n (speedVal (at (slots n w 19)) (slots n w 6) (slots n w 10) first)) (put (5 * n) (tab n (radialVal (at (slots n w 19)) (slots n w 6) (slots n w 10) first)) w) → Became n (radials n) w w'
+pub radials-wrote : (n : ℕ) (w w' : List Float) (first : Float) → first ≡ at (slots n w integralSlot) 0 → slotCount * n ≤ length w
+    → w' ≡ put (charSpeedSlot * n) (tab n (speedVal (at (slots n w pointsSlot)) (slots n w lapseSlot) (slots n w integralSlot) first)) (put (radialFactorSlot * n) (tab n (radialVal (at (slots n w pointsSlot)) (slots n w lapseSlot) (slots n w integralSlot) first)) w) → Became n (radials n) w w'
 radials-wrote n w w' first e h p =
-    wrote2 n 5 7 (λ S. tab n (radialVal (at (S 19)) (S 6) (S 10) (at (S 10) 0))) (λ S. tab n (speedVal (at (S 19)) (S 6) (S 10) (at (S 10) 0))) w w' (length-tab n _) (length-tab n _) (omega arith) (omega arith) (rw e at p)
+    wrote2 n radialFactorSlot charSpeedSlot (λ S. tab n (radialVal (at (S pointsSlot)) (S lapseSlot) (S integralSlot) (at (S integralSlot) 0))) (λ S. tab n (speedVal (at (S pointsSlot)) (S lapseSlot) (S integralSlot) (at (S integralSlot) 0))) w w' (length-tab n _) (length-tab n _) (omega arith) (omega arith) (rw e at p)
 
 -- the four passes of the lapse
 pub lapse-passes : (n : ℕ) (h : Float) (S : Slots) (k : ℕ) → normals (exps (logLapses h (integrands n S))) k ≡ lapses n h S k
-lapse-passes n h S k = go _ _ _ _ _ _ (eqb k 9) (eqb k 6)
+lapse-passes n h S k = go _ _ _ _ _ _ (eqb k scratchSlot) (eqb k lapseSlot)
   where
     go : (A B B' B'' A' C : List Float) (b9 b6 : Bool) → cond b9 A (cond b6 B (cond b6 B' (cond b6 B'' (cond b9 A' C)))) ≡ cond b9 A (cond b6 B C)
     go A B B' B'' A' C true b6 = refl
@@ -51,46 +52,46 @@ lapse-passes n h S k = go _ _ _ _ _ _ (eqb k 9) (eqb k 6)
 -- the passes of the constraints on n points with spacing h, r i the coordinate of point i
 unfoldable constraintsOn : ℕ → Float → (ℕ → Float) → Slots → Slots
 constraintsOn n h r S =
-    let gradient = diffOf h (S 0) in
-    let lapse = lapseOn n h r gradient (S 1) in
+    let gradient = diffOf h (S fieldSlot) in
+    let lapse = lapseOn n h r gradient (S momentumSlot) in
     let integral = integralOf h (map reciprocalOf lapse) in
-    upd 7 (tab n (speedVal r lapse integral (at integral 0)))
-    (upd 5 (tab n (radialVal r lapse integral (at integral 0)))
-    (upd 10 integral (upd 9 (map reciprocalOf lapse) (upd 6 lapse (upd 8 gradient S)))))
+    upd charSpeedSlot (tab n (speedVal r lapse integral (at integral 0)))
+    (upd radialFactorSlot (tab n (radialVal r lapse integral (at integral 0)))
+    (upd integralSlot integral (upd scratchSlot (map reciprocalOf lapse) (upd lapseSlot lapse (upd gradientSlot gradient S)))))
 
 unfoldable energiesOn : ℕ → (ℕ → Float) → Slots → Slots
-energiesOn n r S = upd 4 (tab n (massVal r (S 5))) (upd 3 (tab n (energyVal r (S 8) (S 1))) S)
+energiesOn n r S = upd massSlot (tab n (massVal r (S radialFactorSlot))) (upd energyDensitySlot (tab n (energyVal r (S gradientSlot) (S momentumSlot))) S)
 
 module _ (level : ℕ) (S : Slots) where
   constraints-by : constraintsOn (pointsOf level) (spacingOf level) (pointOf level) S ≡ constraints level S
   unfolding constraintsOn lapseOf integrandOf radialGradientOf radialFactorOf charSpeedOf
   constraints-by =
       let n = pointsOf level in
-      let lapse = lapseOf level (radialGradientOf level (S 0)) (S 1) in
+      let lapse = lapseOf level (radialGradientOf level (S fieldSlot)) (S momentumSlot) in
       let integral = integralOf (spacingOf level) (map reciprocalOf lapse) in
       let value = radialVal (pointOf level) lapse integral (at integral 0) in
       let speed : tab n (speedVal (pointOf level) lapse integral (at integral 0)) ≡ charSpeedOf level (radialFactorOf level lapse) lapse =
       tab-same n _ _ (λ j l. ap (λ (x : Float). div binary64 x (at lapse j)) (sym (getD-tab n value j nan l))) in
-      ap (λ (xs : List Float). upd 7 xs (upd 5 (radialFactorOf level lapse) (upd 10 integral (upd 9 (map reciprocalOf lapse) (upd 6 lapse (upd 8 (radialGradientOf level (S 0)) S)))))) speed
+      ap (λ (xs : List Float). upd charSpeedSlot xs (upd radialFactorSlot (radialFactorOf level lapse) (upd integralSlot integral (upd scratchSlot (map reciprocalOf lapse) (upd lapseSlot lapse (upd gradientSlot (radialGradientOf level (S fieldSlot)) S)))))) speed
 
   energies-by : energiesOn (pointsOf level) (pointOf level) (constraints level S) ≡ fullConstraints level S
   unfolding energiesOn energyDensityOf massOf
   energies-by = refl
 
-  constraints-on : (n : ℕ) (h : Float) → radialFactors n h (lapses n h (gradients h S)) ≡ constraintsOn n h (at (S 19)) S
+  constraints-on : (n : ℕ) (h : Float) → radialFactors n h (lapses n h (gradients h S)) ≡ constraintsOn n h (at (S pointsSlot)) S
   unfolding constraintsOn
   constraints-on n h = refl
 
-  energies-on : (n : ℕ) → energies n (constraints level S) ≡ energiesOn n (at (S 19)) (constraints level S)
+  energies-on : (n : ℕ) → energies n (constraints level S) ≡ energiesOn n (at (S pointsSlot)) (constraints level S)
   unfolding energiesOn
   energies-on n = refl
 
-  pub constraints-are : (n : ℕ) (h : Float) → n ≡ pointsOf level → h ≡ spacingOf level → at (S 19) ≡ pointOf level → radialFactors n h (lapses n h (gradients h S)) ≡ constraints level S
+  pub constraints-are : (n : ℕ) (h : Float) → n ≡ pointsOf level → h ≡ spacingOf level → at (S pointsSlot) ≡ pointOf level → radialFactors n h (lapses n h (gradients h S)) ≡ constraints level S
   constraints-are n h p q e =
-      let known : constraintsOn n h (at (S 19)) S ≡ constraintsOn (pointsOf level) (spacingOf level) (pointOf level) S = cc in
+      let known : constraintsOn n h (at (S pointsSlot)) S ≡ constraintsOn (pointsOf level) (spacingOf level) (pointOf level) S = cc in
       constraints-on n h ∙ known ∙ constraints-by
 
-  pub energies-are : (n : ℕ) → n ≡ pointsOf level → at (S 19) ≡ pointOf level → energies n (constraints level S) ≡ fullConstraints level S
+  pub energies-are : (n : ℕ) → n ≡ pointsOf level → at (S pointsSlot) ≡ pointOf level → energies n (constraints level S) ≡ fullConstraints level S
   energies-are n p e =
-      let known : energiesOn n (at (S 19)) (constraints level S) ≡ energiesOn (pointsOf level) (pointOf level) (constraints level S) = cc in
+      let known : energiesOn n (at (S pointsSlot)) (constraints level S) ≡ energiesOn (pointsOf level) (pointOf level) (constraints level S) = cc in
       energies-on n ∙ known ∙ energies-by

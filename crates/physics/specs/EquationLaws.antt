@@ -16,6 +16,7 @@ use Rattle.vectors.specs.Stencil.{diff2Of, diff3At, diff3Row}
 use Rattle.vectors.specs.StencilLaws.{Window, window-left, window-inner, window-right, diff3-by, eight}
 use Rattle.physics.specs.Equations.{dtFieldOf, dtConjMomentumOf, dtAlternateMassOf}
 use Rattle.physics.specs.Constraints.{radialGradientOf}
+use Rattle.physics.specs.SlotNumbers.{fieldSlot, momentumSlot, radialFactorSlot, lapseSlot, charSpeedSlot, gradientSlot, scratchSlot, halfFieldSlot, halfMomentumSlot, dtFieldSlot, dtMomentumSlot, dtMassSlot, pointsSlot, correctionSlot}
 use Rattle.physics.specs.Slots.{Slots, upd, known}
 use Rattle.physics.specs.Vector.{at}
 use Rattle.physics.specs.VectorLaws.{tab-same}
@@ -53,13 +54,13 @@ third-in {i} {xs = xs} n from back F l far h W q =
 
 -- the passes of the rates
 pub rate-passes : (n : ℕ) (scale : Float) (S : Slots) (k : ℕ) → massRates n (momentumRates n (fieldRates n (dampings n scale S))) k ≡ rates n scale S k
-rate-passes n scale S k = go _ _ _ _ _ _ _ _ field momentum (eqb k 15) (eqb k 14) (eqb k 13)
+rate-passes n scale S k = go _ _ _ _ _ _ _ _ field momentum (eqb k dtMassSlot) (eqb k dtMomentumSlot) (eqb k dtFieldSlot)
   where
-    field : tab n (fieldRateIn (dampings n scale S)) ≡ tab n (fieldRateVal scale (S 7) (S 1) (S 11))
-    field = tab-same n _ _ (λ j l. ap (add binary64 _) (getD-tab n (dampingVal scale (S 11)) j nan l))
+    field : tab n (fieldRateIn (dampings n scale S)) ≡ tab n (fieldRateVal scale (S charSpeedSlot) (S momentumSlot) (S halfFieldSlot))
+    field = tab-same n _ _ (λ j l. ap (add binary64 _) (getD-tab n (dampingVal scale (S halfFieldSlot)) j nan l))
 
-    momentum : tab n (momentumRateIn (fieldRates n (dampings n scale S))) ≡ tab n (momentumRateVal (at (S 19)) scale (S 7) (S 9) (S 5) (S 8) (S 6) (S 12))
-    momentum = tab-same n _ _ (λ j l. ap (add binary64 _) (getD-tab n (dampingVal scale (S 12)) j nan l))
+    momentum : tab n (momentumRateIn (fieldRates n (dampings n scale S))) ≡ tab n (momentumRateVal (at (S pointsSlot)) scale (S charSpeedSlot) (S scratchSlot) (S radialFactorSlot) (S gradientSlot) (S lapseSlot) (S halfMomentumSlot))
+    momentum = tab-same n _ _ (λ j l. ap (add binary64 _) (getD-tab n (dampingVal scale (S halfMomentumSlot)) j nan l))
 
     go : (M P F P' F' D D' C : List Float) → F' ≡ F → P' ≡ P → (b15 b14 b13 : Bool)
         → cond b15 M (cond b14 P' (cond b13 F' (cond b14 D (cond b13 D' C)))) ≡ cond b15 M (cond b14 P (cond b13 F C))
@@ -72,24 +73,24 @@ rate-passes n scale S k = go _ _ _ _ _ _ _ _ field momentum (eqb k 15) (eqb k 14
 unfoldable derivativesOn : ℕ → Float → (ℕ → Float) → (ℕ → Float) → List Float → Slots → Slots
 derivativesOn n h r c gradient S =
     let scale = dissipationScale h in
-    let second = diff2Of h (S 0) in
-    upd 15 (tab n (massRateVal r (S 5) (S 6) gradient (S 1)))
-    (upd 14 (tab n (momentumRateVal r scale (S 7) second (S 5) gradient (S 6) (halfOn c (S 1))))
-    (upd 13 (tab n (fieldRateVal scale (S 7) (S 1) (halfOn c (S 0))))
-    (upd 9 second (upd 12 (halfOn c (S 1)) (upd 11 (halfOn c (S 0)) S)))))
+    let second = diff2Of h (S fieldSlot) in
+    upd dtMassSlot (tab n (massRateVal r (S radialFactorSlot) (S lapseSlot) gradient (S momentumSlot)))
+    (upd dtMomentumSlot (tab n (momentumRateVal r scale (S charSpeedSlot) second (S radialFactorSlot) gradient (S lapseSlot) (halfOn c (S momentumSlot))))
+    (upd dtFieldSlot (tab n (fieldRateVal scale (S charSpeedSlot) (S momentumSlot) (halfOn c (S fieldSlot))))
+    (upd scratchSlot second (upd halfMomentumSlot (halfOn c (S momentumSlot)) (upd halfFieldSlot (halfOn c (S fieldSlot)) S)))))
 
 module _ (level : ℕ) (S : Slots) where
-  derivatives-by : derivativesOn (pointsOf level) (spacingOf level) (pointOf level) (λ i. radialCorrectionOf (pointOf level i)) (radialGradientOf level (S 0)) S ≡ derivatives level S
+  derivatives-by : derivativesOn (pointsOf level) (spacingOf level) (pointOf level) (λ i. radialCorrectionOf (pointOf level i)) (radialGradientOf level (S fieldSlot)) S ≡ derivatives level S
   unfolding derivativesOn halfOn dtFieldOf dtConjMomentumOf dtAlternateMassOf dissipationAt halfDissipationOf halfDissipationAt
   derivatives-by = refl
 
-  derivatives-on : (n : ℕ) (h : Float) → rates n (dissipationScale h) (seconds h (halves S)) ≡ derivativesOn n h (at (S 19)) (at (S 20)) (S 8) S
+  derivatives-on : (n : ℕ) (h : Float) → rates n (dissipationScale h) (seconds h (halves S)) ≡ derivativesOn n h (at (S pointsSlot)) (at (S correctionSlot)) (S gradientSlot) S
   unfolding derivativesOn
   derivatives-on n h = refl
 
-  pub derivatives-are : (n : ℕ) (h scale : Float) → n ≡ pointsOf level → h ≡ spacingOf level → scale ≡ dissipationScale h → at (S 19) ≡ pointOf level
-      → at (S 20) ≡ (λ i. radialCorrectionOf (pointOf level i)) → S 8 ≡ radialGradientOf level (S 0) → rates n scale (seconds h (halves S)) ≡ derivatives level S
+  pub derivatives-are : (n : ℕ) (h scale : Float) → n ≡ pointsOf level → h ≡ spacingOf level → scale ≡ dissipationScale h → at (S pointsSlot) ≡ pointOf level
+      → at (S correctionSlot) ≡ (λ i. radialCorrectionOf (pointOf level i)) → S gradientSlot ≡ radialGradientOf level (S fieldSlot) → rates n scale (seconds h (halves S)) ≡ derivatives level S
   derivatives-are n h scale p q s e f g =
-      let known : derivativesOn n h (at (S 19)) (at (S 20)) (S 8) S
-      ≡ derivativesOn (pointsOf level) (spacingOf level) (pointOf level) (λ i. radialCorrectionOf (pointOf level i)) (radialGradientOf level (S 0)) S = cc in
+      let known : derivativesOn n h (at (S pointsSlot)) (at (S correctionSlot)) (S gradientSlot) S
+      ≡ derivativesOn (pointsOf level) (spacingOf level) (pointOf level) (λ i. radialCorrectionOf (pointOf level i)) (radialGradientOf level (S fieldSlot)) S = cc in
       ap (λ (x : Float). rates n x (seconds h (halves S))) s ∙ derivatives-on n h ∙ known ∙ derivatives-by

@@ -21,6 +21,7 @@ use Rattle.physics.specs.Constraints.{constraintsOf}
 use Rattle.physics.specs.InitialPasses.{exponentVal, exponents, scales, profileOn, variables, initials}
 use Rattle.physics.specs.InitialState.{waveProfileOf, initialStateOf}
 use Rattle.physics.specs.Rk4.{stateOf}
+use Rattle.physics.specs.SlotNumbers.{momentumSlot, pointsSlot}
 use Rattle.physics.specs.Slots.{Slots, slots, upd, Became}
 use Rattle.physics.specs.StepLaws.{stateOfSlots, grid-points}
 use Rattle.physics.specs.Vector.{at}
@@ -31,10 +32,10 @@ use Rattle.physics.specs.WorkLaws.{made-in}
 
 -- the three passes of field and momentum
 abbrev pub exps : Slots → Slots
-exps S = upd 1 (map expOf (S 1)) S
+exps S = upd momentumSlot (map expOf (S momentumSlot)) S
 
 pub variable-passes : (n : ℕ) (amplitude : Float) (S : Slots) (k : ℕ) → scales amplitude (exps (exponents n S)) k ≡ variables n amplitude S k
-variable-passes n amplitude S k = go _ _ _ _ (eqb k 1)
+variable-passes n amplitude S k = go _ _ _ _ (eqb k momentumSlot)
   where
     go : (A B C D : List Float) (b : Bool) → cond b A (cond b B (cond b C D)) ≡ cond b A D
     go A B C D true = refl
@@ -50,7 +51,7 @@ profile-is level amplitude =
     ∙ tab-same n _ _ (λ j l. ap (λ (x : Float). mul binary64 amplitude (expOf x)) (getD-tab n (exponentVal (pointOf level)) j nan l))
 
 -- on a grid that the level's points are read from
-initial-slots : (level : ℕ) (amplitude : Float) (S : Slots) → at (S 19) ≡ pointOf level
+initial-slots : (level : ℕ) (amplitude : Float) (S : Slots) → at (S pointsSlot) ≡ pointOf level
     → stateOfSlots (whole 0) (initials level (pointsOf level) amplitude S) ≡ initialStateOf level amplitude
 unfolding initialStateOf stateOf constraintsOf
 initial-slots level amplitude S e =

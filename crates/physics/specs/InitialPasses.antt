@@ -7,6 +7,7 @@ use Rattle.vectors.specs.Exp.{expOf}
 use Rattle.vectors.specs.Memory.{tab}
 use Rattle.physics.specs.InitialState.{exponentAt}
 use Rattle.physics.specs.Passes.{fullConstraints}
+use Rattle.physics.specs.SlotNumbers.{fieldSlot, momentumSlot, alternateMassSlot, massSlot, pointsSlot}
 use Rattle.physics.specs.Slots.{Slots, upd}
 use Rattle.physics.specs.Vector.{at}
 
@@ -15,18 +16,18 @@ abbrev pub exponentVal : (ℕ → Float) → ℕ → Float
 exponentVal r i = exponentAt (r i)
 
 abbrev pub exponents : ℕ → Slots → Slots
-exponents n S = upd 1 (tab n (exponentVal (at (S 19)))) (upd 0 (tab n (λ i. whole 0)) S)
+exponents n S = upd momentumSlot (tab n (exponentVal (at (S pointsSlot)))) (upd fieldSlot (tab n (λ i. whole 0)) S)
 
 abbrev pub scales : Float → Slots → Slots
-scales amplitude S = upd 1 (map (mul binary64 amplitude) (S 1)) S
+scales amplitude S = upd momentumSlot (map (mul binary64 amplitude) (S momentumSlot)) S
 
 abbrev pub profileOn : ℕ → Float → (ℕ → Float) → List Float
 profileOn n amplitude r = map (mul binary64 amplitude) (map expOf (tab n (exponentVal r)))
 
 -- the field and the momentum
 abbrev pub variables : ℕ → Float → Slots → Slots
-variables n amplitude S = upd 1 (profileOn n amplitude (at (S 19))) (upd 0 (tab n (λ i. whole 0)) S)
+variables n amplitude S = upd momentumSlot (profileOn n amplitude (at (S pointsSlot))) (upd fieldSlot (tab n (λ i. whole 0)) S)
 
 -- the eight vectors
 abbrev pub initials : ℕ → ℕ → Float → Slots → Slots
-initials level n amplitude S = let T = fullConstraints level (variables n amplitude S) in upd 2 (T 4) T
+initials level n amplitude S = let T = fullConstraints level (variables n amplitude S) in upd alternateMassSlot (T massSlot) T

@@ -22,6 +22,7 @@ pub mod Quadrature
 pub mod Rk4
 pub mod Rk4Tableau
 pub mod Sizes
+pub mod SlotNumbers
 pub mod Slots
 pub mod State
 pub mod StateLaws

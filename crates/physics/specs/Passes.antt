@@ -19,6 +19,7 @@ use Rattle.vectors.specs.StencilLaws.{Window}
 use Rattle.physics.specs.Constraints.{Constraints, integrandAt, normalisedOf, radialFactorAt, energyDensityAt, massAt, radialGradientOf, lapseOf, radialFactorOf, charSpeedOf, energyDensityOf, massOf}
 use Rattle.physics.specs.Equations.{fieldRateAt, momentumRateAt, originRateAt, massRateAt, dtFieldOf, dtConjMomentumOf, dtAlternateMassOf, boundedOf}
 use Rattle.physics.specs.Integral.{integralOf}
+use Rattle.physics.specs.SlotNumbers.{fieldSlot, momentumSlot, energyDensitySlot, massSlot, radialFactorSlot, lapseSlot, charSpeedSlot, gradientSlot, scratchSlot, integralSlot, halfFieldSlot, halfMomentumSlot, dtFieldSlot, dtMomentumSlot, dtMassSlot, pointsSlot, correctionSlot, slotCount}
 use Rattle.physics.specs.Slots.{Slots, slots, upd}
 use Rattle.physics.specs.Vector.{at}
 
@@ -28,16 +29,16 @@ use Rattle.physics.specs.Vector.{at}
 pub record Room (n len : ℕ) : Type 0 where
   pub many : 9 ≤ n
   pub odd : n % 2 ≡ 1
-  pub fits : 21 * n ≤ len
+  pub fits : slotCount * n ≤ len
 
 -- room for the slots, on the grid of a level, whose points and radial correction stand in theirs
 pub record Ready (level n : ℕ) (w : List Float) : Type 0 where
   pub many : 9 ≤ n
   pub odd : n % 2 ≡ 1
-  pub fits : 21 * n ≤ length w
+  pub fits : slotCount * n ≤ length w
   pub grid : n ≡ pointsOf level
-  pub points : at (slots n w 19) ≡ pointOf level
-  pub correction : at (slots n w 20) ≡ (λ i. radialCorrectionOf (pointOf level i))
+  pub points : at (slots n w pointsSlot) ≡ pointOf level
+  pub correction : at (slots n w correctionSlot) ≡ (λ i. radialCorrectionOf (pointOf level i))
 
 -- n numbers from from on, and n from to on that lie apart from them
 pub record Inside (len from to n : ℕ) : Type 0 where
@@ -49,45 +50,45 @@ pub record Inside (len from to n : ℕ) : Type 0 where
 pub record Target (n len to : ℕ) : Type 0 where
   pub many : 9 ≤ n
   pub odd : n % 2 ≡ 1
-  pub fits : 21 * n ≤ len
+  pub fits : slotCount * n ≤ len
   pub target : to + n ≤ len
-  pub far : apart to n (9 * n) n ≡ true
+  pub far : apart to n (scratchSlot * n) n ≡ true
 
 -- ---- the grid
 abbrev pub grids : ℕ → ℕ → Slots → Slots
-grids level n S = upd 20 (tab n (λ i. radialCorrectionOf (pointOf level i))) (upd 19 (tab n (pointOf level)) S)
+grids level n S = upd correctionSlot (tab n (λ i. radialCorrectionOf (pointOf level i))) (upd pointsSlot (tab n (pointOf level)) S)
 
 -- ---- the constraints, pass by pass
 
 abbrev pub gradients : Float → Slots → Slots
-gradients h S = upd 8 (diffOf h (S 0)) S
+gradients h S = upd gradientSlot (diffOf h (S fieldSlot)) S
 
 -- with r i the coordinate of point i
 abbrev pub integrandVal : (ℕ → Float) → List Float → List Float → ℕ → Float
 integrandVal r gradient momentum i = integrandAt (r i) (at gradient i) (at momentum i)
 
 abbrev pub integrands : ℕ → Slots → Slots
-integrands n S = upd 9 (tab n (integrandVal (at (S 19)) (S 8) (S 1))) S
+integrands n S = upd scratchSlot (tab n (integrandVal (at (S pointsSlot)) (S gradientSlot) (S momentumSlot))) S
 
 -- the log lapse, and the lapse before it is normalised
 abbrev pub logLapses : Float → Slots → Slots
-logLapses h S = upd 6 (integralOf h (S 9)) S
+logLapses h S = upd lapseSlot (integralOf h (S scratchSlot)) S
 
 abbrev pub exps : Slots → Slots
-exps S = upd 6 (map expOf (S 6)) S
+exps S = upd lapseSlot (map expOf (S lapseSlot)) S
 
 abbrev pub normals : Slots → Slots
-normals S = upd 9 (map reciprocalOf (normalisedOf (S 6))) (upd 6 (normalisedOf (S 6)) S)
+normals S = upd scratchSlot (map reciprocalOf (normalisedOf (S lapseSlot))) (upd lapseSlot (normalisedOf (S lapseSlot)) S)
 
 -- the four passes of the lapse in a row
 abbrev pub lapseOn : ℕ → Float → (ℕ → Float) → List Float → List Float → List Float
 lapseOn n h r gradient momentum = normalisedOf (map expOf (integralOf h (tab n (integrandVal r gradient momentum))))
 
 abbrev pub lapses : ℕ → Float → Slots → Slots
-lapses n h S = let lapse = lapseOn n h (at (S 19)) (S 8) (S 1) in upd 9 (map reciprocalOf lapse) (upd 6 lapse S)
+lapses n h S = let lapse = lapseOn n h (at (S pointsSlot)) (S gradientSlot) (S momentumSlot) in upd scratchSlot (map reciprocalOf lapse) (upd lapseSlot lapse S)
 
 abbrev pub integrals : Float → Slots → Slots
-integrals h S = upd 10 (integralOf h (S 9)) S
+integrals h S = upd integralSlot (integralOf h (S scratchSlot)) S
 
 abbrev pub radialVal : (ℕ → Float) → List Float → List Float → Float → ℕ → Float
 radialVal r lapse integral first i = cond (eqb i 0) (whole 1) (radialFactorAt (at lapse i) (r i) (at integral i) first)
@@ -96,7 +97,7 @@ abbrev pub speedVal : (ℕ → Float) → List Float → List Float → Float �
 speedVal r lapse integral first i = div binary64 (radialVal r lapse integral first i) (at lapse i)
 
 abbrev pub radials : ℕ → Slots → Slots
-radials n S = upd 7 (tab n (speedVal (at (S 19)) (S 6) (S 10) (at (S 10) 0))) (upd 5 (tab n (radialVal (at (S 19)) (S 6) (S 10) (at (S 10) 0))) S)
+radials n S = upd charSpeedSlot (tab n (speedVal (at (S pointsSlot)) (S lapseSlot) (S integralSlot) (at (S integralSlot) 0))) (upd radialFactorSlot (tab n (radialVal (at (S pointsSlot)) (S lapseSlot) (S integralSlot) (at (S integralSlot) 0))) S)
 
 abbrev pub radialFactors : ℕ → Float → Slots → Slots
 radialFactors n h S = radials n (integrals h S)
@@ -108,28 +109,28 @@ abbrev pub massVal : (ℕ → Float) → List Float → ℕ → Float
 massVal r radialFactor i = massAt (r i) (at radialFactor i)
 
 abbrev pub energies : ℕ → Slots → Slots
-energies n S = upd 4 (tab n (massVal (at (S 19)) (S 5))) (upd 3 (tab n (energyVal (at (S 19)) (S 8) (S 1))) S)
+energies n S = upd massSlot (tab n (massVal (at (S pointsSlot)) (S radialFactorSlot))) (upd energyDensitySlot (tab n (energyVal (at (S pointsSlot)) (S gradientSlot) (S momentumSlot))) S)
 
 -- ---- the constraints, by their definitions
 
 abbrev pub lapseIn : ℕ → Slots → List Float
-lapseIn level S = lapseOf level (radialGradientOf level (S 0)) (S 1)
+lapseIn level S = lapseOf level (radialGradientOf level (S fieldSlot)) (S momentumSlot)
 
 abbrev pub radialFactorIn : ℕ → Slots → List Float
 radialFactorIn level S = radialFactorOf level (lapseIn level S)
 
 abbrev pub constraints : ℕ → Slots → Slots
 constraints level S =
-    upd 7 (charSpeedOf level (radialFactorIn level S) (lapseIn level S))
-    (upd 5 (radialFactorIn level S)
-    (upd 10 (integralOf (spacingOf level) (map reciprocalOf (lapseIn level S)))
-    (upd 9 (map reciprocalOf (lapseIn level S))
-    (upd 6 (lapseIn level S)
-    (upd 8 (radialGradientOf level (S 0)) S)))))
+    upd charSpeedSlot (charSpeedOf level (radialFactorIn level S) (lapseIn level S))
+    (upd radialFactorSlot (radialFactorIn level S)
+    (upd integralSlot (integralOf (spacingOf level) (map reciprocalOf (lapseIn level S)))
+    (upd scratchSlot (map reciprocalOf (lapseIn level S))
+    (upd lapseSlot (lapseIn level S)
+    (upd gradientSlot (radialGradientOf level (S fieldSlot)) S)))))
 
 abbrev pub fullConstraints : ℕ → Slots → Slots
 fullConstraints level S =
-    upd 4 (massOf level (radialFactorIn level S)) (upd 3 (energyDensityOf level (radialGradientOf level (S 0)) (S 1)) (constraints level S))
+    upd massSlot (massOf level (radialFactorIn level S)) (upd energyDensitySlot (energyDensityOf level (radialGradientOf level (S fieldSlot)) (S momentumSlot)) (constraints level S))
 
 -- ---- the equations of motion, pass by pass
 
@@ -142,10 +143,10 @@ unfolding tab
 halfOn c xs = tab (length xs) (halfVal c xs)
 
 abbrev pub halves : Slots → Slots
-halves S = upd 12 (halfOn (at (S 20)) (S 1)) (upd 11 (halfOn (at (S 20)) (S 0)) S)
+halves S = upd halfMomentumSlot (halfOn (at (S correctionSlot)) (S momentumSlot)) (upd halfFieldSlot (halfOn (at (S correctionSlot)) (S fieldSlot)) S)
 
 abbrev pub seconds : Float → Slots → Slots
-seconds h S = upd 9 (diff2Of h (S 0)) S
+seconds h S = upd scratchSlot (diff2Of h (S fieldSlot)) S
 
 -- scale times the third difference of the half dissipation
 abbrev pub dampingVal : Float → List Float → ℕ → Float
@@ -164,33 +165,33 @@ abbrev pub massRateVal : (ℕ → Float) → List Float → List Float → List 
 massRateVal r radialFactor lapse gradient momentum i = massRateAt (r i) (at radialFactor i) (at lapse i) (at gradient i) (at momentum i)
 
 abbrev pub massRateIn : Slots → ℕ → Float
-massRateIn S = massRateVal (at (S 19)) (S 5) (S 6) (S 8) (S 1)
+massRateIn S = massRateVal (at (S pointsSlot)) (S radialFactorSlot) (S lapseSlot) (S gradientSlot) (S momentumSlot)
 
 abbrev pub massRates : ℕ → Slots → Slots
-massRates n S = upd 15 (tab n (massRateIn S)) S
+massRates n S = upd dtMassSlot (tab n (massRateIn S)) S
 
 abbrev pub rates : ℕ → Float → Slots → Slots
 rates n scale S =
-    massRates n (upd 14 (tab n (momentumRateVal (at (S 19)) scale (S 7) (S 9) (S 5) (S 8) (S 6) (S 12))) (upd 13 (tab n (fieldRateVal scale (S 7) (S 1) (S 11))) S))
+    massRates n (upd dtMomentumSlot (tab n (momentumRateVal (at (S pointsSlot)) scale (S charSpeedSlot) (S scratchSlot) (S radialFactorSlot) (S gradientSlot) (S lapseSlot) (S halfMomentumSlot))) (upd dtFieldSlot (tab n (fieldRateVal scale (S charSpeedSlot) (S momentumSlot) (S halfFieldSlot))) S))
 
 -- the same in passes: the dissipation, to which the rates without it are added
 abbrev pub dampings : ℕ → Float → Slots → Slots
-dampings n scale S = upd 14 (tab n (dampingVal scale (S 12))) (upd 13 (tab n (dampingVal scale (S 11))) S)
+dampings n scale S = upd dtMomentumSlot (tab n (dampingVal scale (S halfMomentumSlot))) (upd dtFieldSlot (tab n (dampingVal scale (S halfFieldSlot))) S)
 
 abbrev pub fieldRateIn : Slots → ℕ → Float
-fieldRateIn S i = add binary64 (fieldRateAt (at (S 7) i) (at (S 1) i)) (at (S 13) i)
+fieldRateIn S i = add binary64 (fieldRateAt (at (S charSpeedSlot) i) (at (S momentumSlot) i)) (at (S dtFieldSlot) i)
 
 abbrev pub momentumRateIn : Slots → ℕ → Float
 momentumRateIn S i =
     add binary64
-    (cond (eqb i 0) (originRateAt (at (S 9) i) (at (S 6) i)) (momentumRateAt (at (S 7) i) (at (S 9) i) (at (S 5) i) (at (S 8) i) (at (S 19) i) (at (S 6) i)))
-    (at (S 14) i)
+    (cond (eqb i 0) (originRateAt (at (S scratchSlot) i) (at (S lapseSlot) i)) (momentumRateAt (at (S charSpeedSlot) i) (at (S scratchSlot) i) (at (S radialFactorSlot) i) (at (S gradientSlot) i) (at (S pointsSlot) i) (at (S lapseSlot) i)))
+    (at (S dtMomentumSlot) i)
 
 abbrev pub fieldRates : ℕ → Slots → Slots
-fieldRates n S = upd 13 (tab n (fieldRateIn S)) S
+fieldRates n S = upd dtFieldSlot (tab n (fieldRateIn S)) S
 
 abbrev pub momentumRates : ℕ → Slots → Slots
-momentumRates n S = upd 14 (tab n (momentumRateIn S)) S
+momentumRates n S = upd dtMomentumSlot (tab n (momentumRateIn S)) S
 
 -- points lo to hi, the seven numbers of whose third difference begin back before them
 pub record Run (n lo hi back : ℕ) : Type 0 where
@@ -202,9 +203,9 @@ pub record Run (n lo hi back : ℕ) : Type 0 where
 -- room for the slots, and n numbers from from on and from to on that lie apart from them and from slot 20
 pub record HalfRun (n len from to : ℕ) : Type 0 where
   pub many : 9 ≤ n
-  pub fits : 21 * n ≤ len
+  pub fits : slotCount * n ≤ len
   pub source : from + n ≤ len
-  pub target : to + n ≤ 20 * n
+  pub target : to + n ≤ correctionSlot * n
   pub far : apart to n from n ≡ true
 
 -- ---- the equations of motion, by their definitions
@@ -213,21 +214,21 @@ pub record HalfRun (n len from to : ℕ) : Type 0 where
 pub record ReadyEquations (level n : ℕ) (w : List Float) : Type 0 where
   pub many : 9 ≤ n
   pub odd : n % 2 ≡ 1
-  pub fits : 21 * n ≤ length w
+  pub fits : slotCount * n ≤ length w
   pub ready : Ready level n w
-  pub gradient : slots n w 8 ≡ radialGradientOf level (slots n w 0)
+  pub gradient : slots n w gradientSlot ≡ radialGradientOf level (slots n w fieldSlot)
 
 abbrev pub constraintsIn : Slots → Constraints
-constraintsIn S = record { energyDensity = S 3; mass = S 4; radialFactor = S 5; lapse = S 6; charSpeed = S 7 }
+constraintsIn S = record { energyDensity = S energyDensitySlot; mass = S massSlot; radialFactor = S radialFactorSlot; lapse = S lapseSlot; charSpeed = S charSpeedSlot }
 
 abbrev pub derivatives : ℕ → Slots → Slots
 derivatives level S =
-    upd 15 (dtAlternateMassOf level (S 0) (S 1) (constraintsIn S))
-    (upd 14 (dtConjMomentumOf level (S 0) (S 1) (constraintsIn S))
-    (upd 13 (dtFieldOf level (S 0) (S 1) (constraintsIn S))
-    (upd 9 (diff2Of (spacingOf level) (S 0))
-    (upd 12 (halfDissipationOf level (S 1)) (upd 11 (halfDissipationOf level (S 0)) S)))))
+    upd dtMassSlot (dtAlternateMassOf level (S fieldSlot) (S momentumSlot) (constraintsIn S))
+    (upd dtMomentumSlot (dtConjMomentumOf level (S fieldSlot) (S momentumSlot) (constraintsIn S))
+    (upd dtFieldSlot (dtFieldOf level (S fieldSlot) (S momentumSlot) (constraintsIn S))
+    (upd scratchSlot (diff2Of (spacingOf level) (S fieldSlot))
+    (upd halfMomentumSlot (halfDissipationOf level (S momentumSlot)) (upd halfFieldSlot (halfDissipationOf level (S fieldSlot)) S)))))
 
 -- boundary values
 abbrev pub bounds : Slots → Slots
-bounds S = upd 1 (boundedOf (S 1)) (upd 0 (boundedOf (S 0)) S)
+bounds S = upd momentumSlot (boundedOf (S momentumSlot)) (upd fieldSlot (boundedOf (S fieldSlot)) S)

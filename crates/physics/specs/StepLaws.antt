@@ -18,6 +18,7 @@ use Rattle.physics.specs.Rk4.{storedConstraints, stateOf, stageOf, weigh
 use Rattle.physics.specs.NeighbourLaws.{one-more}
 use Rattle.physics.specs.Passes.{Room, Ready, ReadyEquations, gradients, grids}
 use Rattle.physics.specs.PassLaws.{renamed, ready-after}
+use Rattle.physics.specs.SlotNumbers.{fieldSlot, momentumSlot, alternateMassSlot, energyDensitySlot, massSlot, radialFactorSlot, lapseSlot, charSpeedSlot, gradientSlot, dtFieldSlot, dtMomentumSlot, dtMassSlot, fieldSumSlot, momentumSumSlot, massSumSlot, pointsSlot, correctionSlot}
 use Rattle.physics.specs.Slots.{Slots, slots, upd, Became}
 use Rattle.physics.specs.StepPasses.{ReadyStep, advancedBySum, firsts, stages, doubledStages, lasts, steps}
 use Rattle.physics.specs.Vector.{at, advancedOf}
@@ -25,8 +26,8 @@ use Rattle.physics.specs.VectorLaws.{tab-same, tab-at}
 
 -- ---- what the next pass may rely on
 module _ {level n : ℕ} {f : Slots → Slots} {w w' : List Float} where
-  pub equations-ready : Ready level n w → Became n f w w' → f (slots n w) 19 ≡ slots n w 19 → f (slots n w) 20 ≡ slots n w 20
-      → f (slots n w) 8 ≡ radialGradientOf level (f (slots n w) 0) → ReadyEquations level n w'
+  pub equations-ready : Ready level n w → Became n f w w' → f (slots n w) pointsSlot ≡ slots n w pointsSlot → f (slots n w) correctionSlot ≡ slots n w correctionSlot
+      → f (slots n w) gradientSlot ≡ radialGradientOf level (f (slots n w) fieldSlot) → ReadyEquations level n w'
   equations-ready R B p q g =
       let R' = ready-after R B p q in
       record {
@@ -34,10 +35,10 @@ module _ {level n : ℕ} {f : Slots → Slots} {w w' : List Float} where
         odd = R' .odd;
         fits = R' .fits;
         ready = R';
-        gradient = ap (λ (S : Slots). S 8) (B .holds) ∙ g ∙ ap (radialGradientOf level) (sym (ap (λ (S : Slots). S 0) (B .holds)));
+        gradient = ap (λ (S : Slots). S gradientSlot) (B .holds) ∙ g ∙ ap (radialGradientOf level) (sym (ap (λ (S : Slots). S fieldSlot) (B .holds)));
       }
 
-  pub step-ready : {ls : ℕ} → ReadyStep level n ls w → Became n f w w' → f (slots n w) 19 ≡ slots n w 19 → f (slots n w) 20 ≡ slots n w 20 → ReadyStep level n ls w'
+  pub step-ready : {ls : ℕ} → ReadyStep level n ls w → Became n f w w' → f (slots n w) pointsSlot ≡ slots n w pointsSlot → f (slots n w) correctionSlot ≡ slots n w correctionSlot → ReadyStep level n ls w'
   step-ready R B p q =
       let R' = ready-after (R .ready) B p q in
       record { many = R' .many; odd = R' .odd; state = R .state; fits = R' .fits; ready = R' }
@@ -47,13 +48,13 @@ module _ {level n : ℕ} {f : Slots → Slots} {w w' : List Float} where
 -- a state of eight slots
 abbrev pub stateOfSlots : Float → Slots → State
 stateOfSlots time S =
-    record { time = time; field = S 0; conjMomentum = S 1; alternateMass = S 2; energyDensity = S 3; mass = S 4; radialFactor = S 5; lapse = S 6; charSpeed = S 7 }
+    record { time = time; field = S fieldSlot; conjMomentum = S momentumSlot; alternateMass = S alternateMassSlot; energyDensity = S energyDensitySlot; mass = S massSlot; radialFactor = S radialFactorSlot; lapse = S lapseSlot; charSpeed = S charSpeedSlot }
 
 abbrev ratesIn : Slots → Equations
-ratesIn S = record { dtField = S 13; dtConjMomentum = S 14; dtAlternateMass = S 15 }
+ratesIn S = record { dtField = S dtFieldSlot; dtConjMomentum = S dtMomentumSlot; dtAlternateMass = S dtMassSlot }
 
 abbrev sumsIn : Slots → Equations
-sumsIn S = record { dtField = S 16; dtConjMomentum = S 17; dtAlternateMass = S 18 }
+sumsIn S = record { dtField = S fieldSumSlot; dtConjMomentum = S momentumSumSlot; dtAlternateMass = S massSumSlot }
 
 -- a + 2 u
 unfoldable plusTwice : ℕ → Equations → Equations → Equations
@@ -149,15 +150,15 @@ module _ (n : ℕ) (w : List Float) where
       let z : 0 * n ≡ 0 = omega arith in
       let o : 1 * n ≡ n = omega arith in
       let s : take (8 * n) w ≡ take (8 * n) (drop (0 * n) w) = rw z in
-      let l : take (1 * n) (drop (7 * n) w) ≡ slots n w 7 = ap (λ (j : ℕ). take j (drop (7 * n) w)) o in
+      let l : take (1 * n) (drop (7 * n) w) ≡ slots n w charSpeedSlot = ap (λ (j : ℕ). take j (drop (7 * n) w)) o in
       s ∙ one-more n w 0 7
-      ∙ ap (λ (x : List Float). slots n w 0 ++ x) (one-more n w 1 6
-      ∙ ap (λ (x : List Float). slots n w 1 ++ x) (one-more n w 2 5
-      ∙ ap (λ (x : List Float). slots n w 2 ++ x) (one-more n w 3 4
-      ∙ ap (λ (x : List Float). slots n w 3 ++ x) (one-more n w 4 3
-      ∙ ap (λ (x : List Float). slots n w 4 ++ x) (one-more n w 5 2
-      ∙ ap (λ (x : List Float). slots n w 5 ++ x) (one-more n w 6 1
-      ∙ ap (λ (x : List Float). slots n w 6 ++ x) l))))))
+      ∙ ap (λ (x : List Float). slots n w fieldSlot ++ x) (one-more n w 1 6
+      ∙ ap (λ (x : List Float). slots n w momentumSlot ++ x) (one-more n w 2 5
+      ∙ ap (λ (x : List Float). slots n w alternateMassSlot ++ x) (one-more n w 3 4
+      ∙ ap (λ (x : List Float). slots n w energyDensitySlot ++ x) (one-more n w 4 3
+      ∙ ap (λ (x : List Float). slots n w massSlot ++ x) (one-more n w 5 2
+      ∙ ap (λ (x : List Float). slots n w radialFactorSlot ++ x) (one-more n w 6 1
+      ∙ ap (λ (x : List Float). slots n w lapseSlot ++ x) l))))))
 
 -- ---- the grid
 
@@ -179,8 +180,8 @@ grid-ready level n w w' p R B =
       odd = R .odd;
       fits = rw l (R .fits);
       grid = p;
-      points = ap (λ (S : Slots). at (S 19)) (B .holds) ∙ grid-points level n p;
-      correction = ap (λ (S : Slots). at (S 20)) (B .holds) ∙ tab-at n (λ i. radialCorrectionOf (pointOf level i)) (λ i h. rw (past level n p i h) correction-nan);
+      points = ap (λ (S : Slots). at (S pointsSlot)) (B .holds) ∙ grid-points level n p;
+      correction = ap (λ (S : Slots). at (S correctionSlot)) (B .holds) ∙ tab-at n (λ i. radialCorrectionOf (pointOf level i)) (λ i h. rw (past level n p i h) correction-nan);
     }
 
 pub length-advancedBySum : (n : ℕ) (c : Float) (xs sums us : List Float) → length (advancedBySum n c xs sums us) ≡ n
@@ -188,6 +189,6 @@ unfolding advancedBySum
 length-advancedBySum n c xs sums us = length-tab n _
 
 -- the gradient of the field, on the grid of a level
-pub gradient-pass : (level : ℕ) {n : ℕ} {h : Float} {w w' : List Float} → h ≡ spacingOf level → Became n (gradients h) w w' → Became n (λ S. upd 8 (radialGradientOf level (S 0)) S) w w'
+pub gradient-pass : (level : ℕ) {n : ℕ} {h : Float} {w w' : List Float} → h ≡ spacingOf level → Became n (gradients h) w w' → Became n (λ S. upd gradientSlot (radialGradientOf level (S fieldSlot)) S) w w'
 unfolding radialGradientOf
 gradient-pass level {n} {h} {w} e B = renamed (ap (λ (x : Float). gradients x (slots n w)) e) B

@@ -10,6 +10,7 @@ use Rattle.vectors.specs.Memory.{tab}
 use Rattle.vectors.specs.MemoryLaws.{apart}
 use Rattle.physics.specs.Constraints.{half, radialGradientOf}
 use Rattle.physics.specs.Passes.{Ready, constraints, fullConstraints, derivatives, bounds}
+use Rattle.physics.specs.SlotNumbers.{fieldSlot, momentumSlot, alternateMassSlot, radialFactorSlot, lapseSlot, charSpeedSlot, gradientSlot, dtFieldSlot, dtMomentumSlot, dtMassSlot, fieldSumSlot, momentumSumSlot, massSumSlot, slotCount}
 use Rattle.physics.specs.Slots.{Slots, upd}
 use Rattle.physics.specs.Vector.{at, advancedOf}
 
@@ -18,14 +19,14 @@ pub record States (n ls lw : ℕ) : Type 0 where
   pub many : 9 ≤ n
   pub odd : n % 2 ≡ 1
   pub state : 8 * n ≤ ls
-  pub fits : 21 * n ≤ lw
+  pub fits : slotCount * n ≤ lw
 
 -- the same, on the grid of a level
 pub record ReadyStep (level n ls : ℕ) (w : List Float) : Type 0 where
   pub many : 9 ≤ n
   pub odd : n % 2 ≡ 1
   pub state : 8 * n ≤ ls
-  pub fits : 21 * n ≤ length w
+  pub fits : slotCount * n ≤ length w
   pub ready : Ready level n w
 
 -- n numbers from first on, n from second on, and n from to on that lie apart from both
@@ -42,29 +43,29 @@ unfolding tab
 advancedBySum n c xs sums us = tab n (λ i. add binary64 (at xs i) (mul binary64 c (add binary64 (at sums i) (at us i))))
 
 abbrev pub loadsVariables : Slots → Slots → Slots
-loadsVariables T S = upd 1 (T 1) (upd 0 (T 0) S)
+loadsVariables T S = upd momentumSlot (T momentumSlot) (upd fieldSlot (T fieldSlot) S)
 
 abbrev pub loadsConstraints : Slots → Slots → Slots
-loadsConstraints T S = upd 7 (T 7) (upd 6 (T 6) (upd 5 (T 5) S))
+loadsConstraints T S = upd charSpeedSlot (T charSpeedSlot) (upd lapseSlot (T lapseSlot) (upd radialFactorSlot (T radialFactorSlot) S))
 
 abbrev pub loads : Slots → Slots → Slots
 loads T S = loadsConstraints T (loadsVariables T S)
 
 -- the sums begin with the rates of the first stage
 abbrev pub begins : Slots → Slots
-begins S = upd 18 (S 15) (upd 17 (S 14) (upd 16 (S 13) S))
+begins S = upd massSumSlot (S dtMassSlot) (upd momentumSumSlot (S dtMomentumSlot) (upd fieldSumSlot (S dtFieldSlot) S))
 
 -- twice the rates added to the sums
 abbrev pub doubles : ℕ → Slots → Slots
 doubles n S =
-    upd 18 (advancedOf n (whole 2) (S 18) (S 15)) (upd 17 (advancedOf n (whole 2) (S 17) (S 14)) (upd 16 (advancedOf n (whole 2) (S 16) (S 13)) S))
+    upd massSumSlot (advancedOf n (whole 2) (S massSumSlot) (S dtMassSlot)) (upd momentumSumSlot (advancedOf n (whole 2) (S momentumSumSlot) (S dtMomentumSlot)) (upd fieldSumSlot (advancedOf n (whole 2) (S fieldSumSlot) (S dtFieldSlot)) S))
 
 abbrev pub firsts : ℕ → Slots → Slots → Slots
-firsts level T S = let L = loads T S in begins (derivatives level (upd 8 (radialGradientOf level (L 0)) L))
+firsts level T S = let L = loads T S in begins (derivatives level (upd gradientSlot (radialGradientOf level (L fieldSlot)) L))
 
 -- field and momentum c along the rates
 abbrev pub moves : ℕ → Float → Slots → Slots → Slots
-moves n c T S = upd 1 (advancedOf n c (T 1) (S 14)) (upd 0 (advancedOf n c (T 0) (S 13)) S)
+moves n c T S = upd momentumSlot (advancedOf n c (T momentumSlot) (S dtMomentumSlot)) (upd fieldSlot (advancedOf n c (T fieldSlot) (S dtFieldSlot)) S)
 
 abbrev pub forms : ℕ → ℕ → Float → Slots → Slots → Slots
 forms level n c T S = constraints level (bounds (moves n c T S))
@@ -78,7 +79,7 @@ doubledStages level n c T S = doubles n (stages level n c T S)
 -- the field variables of the next state
 abbrev pub ends : ℕ → Float → Slots → Slots → Slots
 ends n c T S =
-    upd 2 (advancedBySum n c (T 2) (S 18) (S 15)) (upd 1 (advancedBySum n c (T 1) (S 17) (S 14)) (upd 0 (advancedBySum n c (T 0) (S 16) (S 13)) S))
+    upd alternateMassSlot (advancedBySum n c (T alternateMassSlot) (S massSumSlot) (S dtMassSlot)) (upd momentumSlot (advancedBySum n c (T momentumSlot) (S momentumSumSlot) (S dtMomentumSlot)) (upd fieldSlot (advancedBySum n c (T fieldSlot) (S fieldSumSlot) (S dtFieldSlot)) S))
 
 abbrev pub lasts : ℕ → ℕ → Float → Slots → Slots → Slots
 lasts level n c T S = fullConstraints level (bounds (ends n c T S))

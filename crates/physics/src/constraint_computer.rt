@@ -8,10 +8,12 @@ ghost use Rattle.vectors.specs.Stencil.{diffAt};
 ghost use lib.Ieee.{binary64, mul, div};
 ghost use Rattle.physics.specs.Constraints.{integrandAt, energyDensityAt, massAt, radialFactorAt};
 ghost use Rattle.physics.specs.Fills.{Grown2};
+ghost use Rattle.physics.specs.SlotNumbers.{fieldSlot, radialFactorSlot, lapseSlot, charSpeedSlot, gradientSlot, integralSlot, pointsSlot};
 ghost use Rattle.physics.specs.Slots.{slots, Became};
 ghost use Rattle.physics.specs.Vector.{at};
 ghost use Rattle.physics.specs.Passes.{Room, Ready, radialVal, speedVal, gradients, integrands, normals, lapses, radials, radialFactors, energies, constraints, fullConstraints};
 use crate::integration::integrate;
+use crate::slots;
 use crate::slots::store_ends;
 use vectors::exp::exp_all;
 use vectors::field_vector::reciprocal;
@@ -41,9 +43,9 @@ pub(crate) fn compute_radial_gradient(h: f64, n: usize, w: &mut [f64])
     ensures { λ _. ⌜ Became n (gradients h) (now (w .entry)) (now (w .exit)) ⌝ }
 {
     let d = 12.0 * h;
-    let field = 0 * n;
-    let end = 1 * n;
-    let to = 8 * n;
+    let field = slots::FIELD * n;
+    let end = slots::MOMENTUM * n;
+    let to = slots::GRADIENT * n;
     let v = &w[field..end];
     let left0 = row5(DIFF_LEFT0, v, 0) / d;
     let left1 = row5(DIFF_LEFT1, v, 0) / d;
@@ -57,13 +59,13 @@ pub(crate) fn compute_radial_gradient(h: f64, n: usize, w: &mut [f64])
 fn radial_gradient_inner(h: f64, n: usize, w: &mut [f64])
     requires { ⌜ Room n (length (now w)) ⌝ }
     ensures { λ _. ⌜ (length (now (w .exit)) ≡ length (now (w .entry)))
-        × Grown (8 * n) 2 (n - 2) (λ E. diffAt h (slots n E 0)) (now (w .entry)) (now (w .exit)) ⌝ }
+        × Grown (gradientSlot * n) 2 (n - 2) (λ E. diffAt h (slots n E fieldSlot)) (now (w .entry)) (now (w .exit)) ⌝ }
 {
     let d = 12.0 * h;
     let len = w.len();
-    let field = 0 * n;
-    let end = 1 * n;
-    let to = 8 * n;
+    let field = slots::FIELD * n;
+    let end = slots::MOMENTUM * n;
+    let to = slots::GRADIENT * n;
     let mut i = 2;
     while i < n - 2 {
         w[to + i] = row5_hollow(DIFF_INNER, &w[field..end], i - 2) / d;
@@ -76,8 +78,8 @@ fn compute_lapse(h: f64, n: usize, w: &mut [f64])
     requires { ⌜ Room n (length (now w)) ⌝ }
     ensures { λ _. ⌜ Became n (lapses n h) (now (w .entry)) (now (w .exit)) ⌝ }
 {
-    let lapse = 6 * n;
-    let end = 7 * n;
+    let lapse = slots::LAPSE * n;
+    let end = slots::CHAR_SPEED * n;
     compute_integrand(n, w);
     integrate(h, n, lapse, w);
     exp_all(&mut w[lapse..end]);
@@ -96,10 +98,10 @@ fn compute_integrand(n: usize, w: &mut [f64])
     ensures { λ _. ⌜ Became n (integrands n) (now (w .entry)) (now (w .exit)) ⌝ }
 {
     let len = w.len();
-    let momentum = 1 * n;
-    let gradient = 8 * n;
-    let to = 9 * n;
-    let points = 19 * n;
+    let momentum = slots::MOMENTUM * n;
+    let gradient = slots::GRADIENT * n;
+    let to = slots::SCRATCH * n;
+    let points = slots::POINTS * n;
     let mut i = 0;
     while i < n {
         w[to + i] = integrand_at(w[points + i], w[gradient + i], w[momentum + i]);
@@ -119,8 +121,8 @@ fn normalise_lapse(n: usize, w: &mut [f64])
     ensures { λ _. ⌜ Became n normals (now (w .entry)) (now (w .exit)) ⌝ }
 {
     let len = w.len();
-    let lapse = 6 * n;
-    let inverse = 9 * n;
+    let lapse = slots::LAPSE * n;
+    let inverse = slots::SCRATCH * n;
     let factor = reciprocal(w[lapse + (n - 1)]);
     let mut i = 0;
     while i < n {
@@ -136,7 +138,7 @@ fn compute_radial_factor(h: f64, n: usize, w: &mut [f64])
     requires { ⌜ Room n (length (now w)) ⌝ }
     ensures { λ _. ⌜ Became n (radialFactors n h) (now (w .entry)) (now (w .exit)) ⌝ }
 {
-    let integral = 10 * n;
+    let integral = slots::INTEGRAL * n;
     integrate(h, n, integral, w);
     radial_factor_and_char_speed(n, w);
 }
@@ -158,10 +160,10 @@ fn radial_factor_and_char_speed(n: usize, w: &mut [f64])
     requires { ⌜ Room n (length (now w)) ⌝ }
     ensures { λ _. ⌜ Became n (radials n) (now (w .entry)) (now (w .exit)) ⌝ }
 {
-    let radial_factor = 5 * n;
-    let lapse = 6 * n;
-    let char_speed = 7 * n;
-    let integral = 10 * n;
+    let radial_factor = slots::RADIAL_FACTOR * n;
+    let lapse = slots::LAPSE * n;
+    let char_speed = slots::CHAR_SPEED * n;
+    let integral = slots::INTEGRAL * n;
     let first = w[integral];
     let x = quotient(1.0, w[lapse]);
     w[radial_factor] = 1.0;
@@ -173,15 +175,15 @@ fn radial_factor_and_char_speed(n: usize, w: &mut [f64])
 fn radial_factor_and_char_speed_from_1(n: usize, first: f64, w: &mut [f64])
     requires { ⌜ Room n (length (now w)) ⌝ }
     ensures { λ _. ⌜ (length (now (w .exit)) ≡ length (now (w .entry)))
-        × Grown2 (5 * n) (7 * n) 1 n (λ E. radialVal (at (slots n E 19)) (slots n E 6) (slots n E 10) first)
-        (λ E. speedVal (at (slots n E 19)) (slots n E 6) (slots n E 10) first) (now (w .entry)) (now (w .exit)) ⌝ }
+        × Grown2 (radialFactorSlot * n) (charSpeedSlot * n) 1 n (λ E. radialVal (at (slots n E pointsSlot)) (slots n E lapseSlot) (slots n E integralSlot) first)
+        (λ E. speedVal (at (slots n E pointsSlot)) (slots n E lapseSlot) (slots n E integralSlot) first) (now (w .entry)) (now (w .exit)) ⌝ }
 {
     let len = w.len();
-    let radial_factor = 5 * n;
-    let lapse = 6 * n;
-    let char_speed = 7 * n;
-    let integral = 10 * n;
-    let points = 19 * n;
+    let radial_factor = slots::RADIAL_FACTOR * n;
+    let lapse = slots::LAPSE * n;
+    let char_speed = slots::CHAR_SPEED * n;
+    let integral = slots::INTEGRAL * n;
+    let points = slots::POINTS * n;
     let mut i = 1;
     while i < n {
         let a = radial_factor_at(w[lapse + i], w[points + i], w[integral + i], first);
@@ -210,12 +212,12 @@ fn compute_energy_and_mass(n: usize, w: &mut [f64])
     ensures { λ _. ⌜ Became n (energies n) (now (w .entry)) (now (w .exit)) ⌝ }
 {
     let len = w.len();
-    let momentum = 1 * n;
-    let energy_density = 3 * n;
-    let mass = 4 * n;
-    let radial_factor = 5 * n;
-    let gradient = 8 * n;
-    let points = 19 * n;
+    let momentum = slots::MOMENTUM * n;
+    let energy_density = slots::ENERGY_DENSITY * n;
+    let mass = slots::MASS * n;
+    let radial_factor = slots::RADIAL_FACTOR * n;
+    let gradient = slots::GRADIENT * n;
+    let points = slots::POINTS * n;
     let mut i = 0;
     while i < n {
         let e = energy_density_at(w[points + i], w[gradient + i], w[momentum + i]);

@@ -9,9 +9,11 @@ ghost use Rattle.vectors.specs.MemoryLaws.{Grown};
 ghost use Rattle.vectors.specs.Stencil.{diff2At};
 ghost use Rattle.vectors.specs.StencilLaws.{eight};
 ghost use Rattle.physics.specs.Equations.{fieldRateAt, momentumRateAt, originRateAt, massRateAt, boundedOf};
+ghost use Rattle.physics.specs.SlotNumbers.{fieldSlot, scratchSlot, dtMomentumSlot, correctionSlot};
 ghost use Rattle.physics.specs.Slots.{slots, Became};
 ghost use Rattle.physics.specs.Vector.{at};
 ghost use Rattle.physics.specs.Passes.{Room, Inside, ReadyEquations, Run, HalfRun, halfVal, halfOn, halves, seconds, dampingVal, dampings, fieldRates, momentumRateIn, momentumRates, massRates, rates, derivatives, bounds};
+use crate::slots;
 use crate::slots::store_ends;
 use vectors::constants::DISSIPATION_FACTOR;
 use vectors::grid::delta;
@@ -49,17 +51,17 @@ fn half_dissipations(n: usize, w: &mut [f64])
     requires { ⌜ Room n (length (now w)) ⌝ }
     ensures { λ _. ⌜ Became n halves (now (w .entry)) (now (w .exit)) ⌝ }
 {
-    let field = 0 * n;
-    let momentum = 1 * n;
-    let half_field = 11 * n;
-    let half_momentum = 12 * n;
+    let field = slots::FIELD * n;
+    let momentum = slots::MOMENTUM * n;
+    let half_field = slots::HALF_FIELD * n;
+    let half_momentum = slots::HALF_MOMENTUM * n;
     half_dissipation(n, field, half_field, w);
     half_dissipation(n, momentum, half_momentum, w);
 }
 
 fn half_dissipation(n: usize, from: usize, to: usize, w: &mut [f64])
     requires { ⌜ HalfRun n (length (now w)) from to ⌝ }
-    ensures { λ _. ⌜ now (w .exit) ≡ put to (halfOn (at (slots n (now (w .entry)) 20)) (part from n (now (w .entry)))) (now (w .entry)) ⌝ }
+    ensures { λ _. ⌜ now (w .exit) ≡ put to (halfOn (at (slots n (now (w .entry)) correctionSlot)) (part from n (now (w .entry)))) (now (w .entry)) ⌝ }
 {
     let end = n - 3;
     half_dissipation_run(n, from, to, 0, 3, 0, w);
@@ -79,10 +81,10 @@ fn half_dissipation_run(
 )
     requires { ⌜ (HalfRun n (length (now w)) from to) × (Run n lo hi back) ⌝ }
     ensures { λ _. ⌜ (length (now (w .exit)) ≡ length (now (w .entry)))
-        × Grown to lo hi (λ E. halfVal (at (slots n E 20)) (part from n E)) (now (w .entry)) (now (w .exit)) ⌝ }
+        × Grown to lo hi (λ E. halfVal (at (slots n E correctionSlot)) (part from n E)) (now (w .entry)) (now (w .exit)) ⌝ }
 {
     let len = w.len();
-    let correction = 20 * n;
+    let correction = slots::CORRECTION * n;
     let end = from + n;
     let mut i = lo;
     while i < hi {
@@ -106,9 +108,9 @@ fn second_difference(h: f64, n: usize, w: &mut [f64])
     ensures { λ _. ⌜ Became n (seconds h) (now (w .entry)) (now (w .exit)) ⌝ }
 {
     let d = 12.0 * (h * h);
-    let field = 0 * n;
-    let end = 1 * n;
-    let to = 9 * n;
+    let field = slots::FIELD * n;
+    let end = slots::MOMENTUM * n;
+    let to = slots::SCRATCH * n;
     let v = &w[field..end];
     let left0 = row6(DIFF2_EDGE0, v, 0) / d;
     let left1 = row6(DIFF2_EDGE1, v, 0) / d;
@@ -122,13 +124,13 @@ fn second_difference(h: f64, n: usize, w: &mut [f64])
 fn second_difference_inner(h: f64, n: usize, w: &mut [f64])
     requires { ⌜ Room n (length (now w)) ⌝ }
     ensures { λ _. ⌜ (length (now (w .exit)) ≡ length (now (w .entry)))
-        × Grown (9 * n) 2 (n - 2) (λ E. diff2At h (slots n E 0)) (now (w .entry)) (now (w .exit)) ⌝ }
+        × Grown (scratchSlot * n) 2 (n - 2) (λ E. diff2At h (slots n E fieldSlot)) (now (w .entry)) (now (w .exit)) ⌝ }
 {
     let d = 12.0 * (h * h);
     let len = w.len();
-    let field = 0 * n;
-    let end = 1 * n;
-    let to = 9 * n;
+    let field = slots::FIELD * n;
+    let end = slots::MOMENTUM * n;
+    let to = slots::SCRATCH * n;
     let mut i = 2;
     while i < n - 2 {
         w[to + i] = row5(DIFF2_INNER, &w[field..end], i - 2) / d;
@@ -151,10 +153,10 @@ fn dissipations(n: usize, scale: f64, w: &mut [f64])
     requires { ⌜ Room n (length (now w)) ⌝ }
     ensures { λ _. ⌜ Became n (dampings n scale) (now (w .entry)) (now (w .exit)) ⌝ }
 {
-    let half_field = 11 * n;
-    let half_momentum = 12 * n;
-    let dt_field = 13 * n;
-    let dt_momentum = 14 * n;
+    let half_field = slots::HALF_FIELD * n;
+    let half_momentum = slots::HALF_MOMENTUM * n;
+    let dt_field = slots::DT_FIELD * n;
+    let dt_momentum = slots::DT_MOMENTUM * n;
     dissipation(n, scale, half_field, dt_field, w);
     dissipation(n, scale, half_momentum, dt_momentum, w);
 }
@@ -198,9 +200,9 @@ fn calculate_dt_field(n: usize, w: &mut [f64])
     ensures { λ _. ⌜ Became n (fieldRates n) (now (w .entry)) (now (w .exit)) ⌝ }
 {
     let len = w.len();
-    let momentum = 1 * n;
-    let char_speed = 7 * n;
-    let to = 13 * n;
+    let momentum = slots::MOMENTUM * n;
+    let char_speed = slots::CHAR_SPEED * n;
+    let to = slots::DT_FIELD * n;
     let mut i = 0;
     while i < n {
         w[to + i] = dt_field_at(w[char_speed + i], w[momentum + i], w[to + i]);
@@ -219,9 +221,9 @@ fn calculate_dt_conj_momentum(n: usize, w: &mut [f64])
     requires { ⌜ Room n (length (now w)) ⌝ }
     ensures { λ _. ⌜ Became n (momentumRates n) (now (w .entry)) (now (w .exit)) ⌝ }
 {
-    let lapse = 6 * n;
-    let second = 9 * n;
-    let to = 14 * n;
+    let lapse = slots::LAPSE * n;
+    let second = slots::SCRATCH * n;
+    let to = slots::DT_MOMENTUM * n;
     w[to] = dt_conj_momentum_at_origin(w[second], w[lapse], w[to]);
     calculate_dt_conj_momentum_from_1(n, w);
 }
@@ -229,16 +231,16 @@ fn calculate_dt_conj_momentum(n: usize, w: &mut [f64])
 fn calculate_dt_conj_momentum_from_1(n: usize, w: &mut [f64])
     requires { ⌜ Room n (length (now w)) ⌝ }
     ensures { λ _. ⌜ (length (now (w .exit)) ≡ length (now (w .entry)))
-        × Grown (14 * n) 1 n (λ E. momentumRateIn (slots n E)) (now (w .entry)) (now (w .exit)) ⌝ }
+        × Grown (dtMomentumSlot * n) 1 n (λ E. momentumRateIn (slots n E)) (now (w .entry)) (now (w .exit)) ⌝ }
 {
     let len = w.len();
-    let radial_factor = 5 * n;
-    let lapse = 6 * n;
-    let char_speed = 7 * n;
-    let first = 8 * n;
-    let second = 9 * n;
-    let to = 14 * n;
-    let points = 19 * n;
+    let radial_factor = slots::RADIAL_FACTOR * n;
+    let lapse = slots::LAPSE * n;
+    let char_speed = slots::CHAR_SPEED * n;
+    let first = slots::GRADIENT * n;
+    let second = slots::SCRATCH * n;
+    let to = slots::DT_MOMENTUM * n;
+    let points = slots::POINTS * n;
     let mut i = 1;
     while i < n {
         w[to + i] = dt_conj_momentum_at(
@@ -280,12 +282,12 @@ fn calculate_dt_alternate_mass(n: usize, w: &mut [f64])
     ensures { λ _. ⌜ Became n (massRates n) (now (w .entry)) (now (w .exit)) ⌝ }
 {
     let len = w.len();
-    let momentum = 1 * n;
-    let radial_factor = 5 * n;
-    let lapse = 6 * n;
-    let gradient = 8 * n;
-    let to = 15 * n;
-    let points = 19 * n;
+    let momentum = slots::MOMENTUM * n;
+    let radial_factor = slots::RADIAL_FACTOR * n;
+    let lapse = slots::LAPSE * n;
+    let gradient = slots::GRADIENT * n;
+    let to = slots::DT_MASS * n;
+    let points = slots::POINTS * n;
     let mut i = 0;
     while i < n {
         w[to + i] = dt_alternate_mass_at(
@@ -310,8 +312,8 @@ pub(crate) fn apply_bcs(n: usize, w: &mut [f64])
     requires { ⌜ Room n (length (now w)) ⌝ }
     ensures { λ _. ⌜ Became n bounds (now (w .entry)) (now (w .exit)) ⌝ }
 {
-    let field = 0 * n;
-    let momentum = 1 * n;
+    let field = slots::FIELD * n;
+    let momentum = slots::MOMENTUM * n;
     set_bcs(n, field, w);
     set_bcs(n, momentum, w);
 }

@@ -9,6 +9,7 @@ ghost use Rattle.vectors.specs.Memory.{part, put};
 ghost use Rattle.vectors.specs.MemoryLaws.{Grown};
 ghost use Rattle.physics.specs.Integral.{quadraticOver, simpsonOver, eighthsOver, integralAt, integralOf};
 ghost use Rattle.physics.specs.Rk4.{rk4Of};
+ghost use Rattle.physics.specs.SlotNumbers.{scratchSlot};
 ghost use Rattle.physics.specs.Slots.{slots, Became};
 ghost use Rattle.physics.specs.Passes.{Room, Target, grids};
 ghost use Rattle.physics.specs.StepPasses.{States, ReadyStep, loadsVariables, loadsConstraints, begins, doubles, firsts, moves, forms, stages, doubledStages, ends, lasts, steps};
@@ -20,6 +21,7 @@ use crate::constraint_computer::compute_constraints;
 use crate::constraint_computer::compute_radial_gradient;
 use crate::equations::apply_bcs;
 use crate::equations::equations_of_motion;
+use crate::slots;
 use crate::slots::add_scaled;
 use crate::slots::advance;
 use crate::slots::advance_by_sum;
@@ -49,8 +51,8 @@ pub fn rk4_step(level: u32, time: f64, delta: f64, state: &[f64], work: &mut [f6
     match answer {
         Answer::Done => {
             let n = length_at_discretization(level);
-            let start = 8 * n;
-            let end = 29 * n;
+            let start = slots::START * n;
+            let end = slots::END * n;
             advance_state(level, n, delta, state, &mut work[start..end]);
             Stepped::To(time + delta)
         }
@@ -63,7 +65,10 @@ fn checked_room(level: u32, state: usize, work: usize) -> Answer
     ensures { λ r. ⌜ numberOf r ≡ faultOf level (roomToStep level state work) ⌝ }
 {
     let n = length_at_discretization(level);
-    checked(level, and_also(8 * n <= state, 40 * n <= work))
+    checked(
+        level,
+        and_also(slots::VECTORS * n <= state, slots::WORK * n <= work),
+    )
 }
 
 // Slots 0 to 7: the state that is delta after the one in state memory.
@@ -103,8 +108,8 @@ fn load_variables(n: usize, state: &[f64], w: &mut [f64])
     requires { ⌜ States n (length (now state)) (length (now w)) ⌝ }
     ensures { λ _. ⌜ Became n (loadsVariables (slots n (now (state .entry)))) (now (w .entry)) (now (w .exit)) ⌝ }
 {
-    let variables = 0 * n;
-    let end = 2 * n;
+    let variables = slots::FIELD * n;
+    let end = slots::ALTERNATE_MASS * n;
     copy_vector(&state[variables..end], variables, w);
 }
 
@@ -113,8 +118,8 @@ fn load_constraints(n: usize, state: &[f64], w: &mut [f64])
     requires { ⌜ States n (length (now state)) (length (now w)) ⌝ }
     ensures { λ _. ⌜ Became n (loadsConstraints (slots n (now (state .entry)))) (now (w .entry)) (now (w .exit)) ⌝ }
 {
-    let constraints = 5 * n;
-    let end = 8 * n;
+    let constraints = slots::RADIAL_FACTOR * n;
+    let end = slots::VECTORS * n;
     copy_vector(&state[constraints..end], constraints, w);
 }
 
@@ -123,8 +128,8 @@ fn begin_sums(n: usize, w: &mut [f64])
     requires { ⌜ Room n (length (now w)) ⌝ }
     ensures { λ _. ⌜ Became n begins (now (w .entry)) (now (w .exit)) ⌝ }
 {
-    let rates = 13 * n;
-    let sums = 16 * n;
+    let rates = slots::DT_FIELD * n;
+    let sums = slots::FIELD_SUM * n;
     copy_within(rates, sums, 3 * n, w);
 }
 
@@ -133,8 +138,8 @@ fn add_doubled(n: usize, w: &mut [f64])
     requires { ⌜ Room n (length (now w)) ⌝ }
     ensures { λ _. ⌜ Became n (doubles n) (now (w .entry)) (now (w .exit)) ⌝ }
 {
-    let rates = 13 * n;
-    let sums = 16 * n;
+    let rates = slots::DT_FIELD * n;
+    let sums = slots::FIELD_SUM * n;
     add_scaled(2.0, rates, sums, 3 * n, w);
 }
 
@@ -170,9 +175,9 @@ fn move_variables(n: usize, c: f64, state: &[f64], w: &mut [f64])
     requires { ⌜ States n (length (now state)) (length (now w)) ⌝ }
     ensures { λ _. ⌜ Became n (moves n c (slots n (now (state .entry)))) (now (w .entry)) (now (w .exit)) ⌝ }
 {
-    let variables = 0 * n;
-    let end = 2 * n;
-    let rates = 13 * n;
+    let variables = slots::FIELD * n;
+    let end = slots::ALTERNATE_MASS * n;
+    let rates = slots::DT_FIELD * n;
     advance(&state[variables..end], c, rates, variables, 2 * n, w);
 }
 
@@ -190,10 +195,10 @@ fn next_variables(n: usize, c: f64, state: &[f64], w: &mut [f64])
     requires { ⌜ States n (length (now state)) (length (now w)) ⌝ }
     ensures { λ _. ⌜ Became n (ends n c (slots n (now (state .entry)))) (now (w .entry)) (now (w .exit)) ⌝ }
 {
-    let variables = 0 * n;
-    let end = 3 * n;
-    let rates = 13 * n;
-    let sums = 16 * n;
+    let variables = slots::FIELD * n;
+    let end = slots::ENERGY_DENSITY * n;
+    let rates = slots::DT_FIELD * n;
+    let sums = slots::FIELD_SUM * n;
     advance_by_sum(&state[variables..end], c, sums, rates, variables, 3 * n, w);
 }
 
@@ -221,10 +226,10 @@ fn eighths_over(h: f64, v: &[f64], i: usize) -> f64
 // The running integral of slot 9, to the numbers from to on.
 pub(crate) fn integrate(h: f64, n: usize, to: usize, w: &mut [f64])
     requires { ⌜ Target n (length (now w)) to ⌝ }
-    ensures { λ _. ⌜ now (w .exit) ≡ put to (integralOf h (slots n (now (w .entry)) 9)) (now (w .entry)) ⌝ }
+    ensures { λ _. ⌜ now (w .exit) ≡ put to (integralOf h (slots n (now (w .entry)) scratchSlot)) (now (w .entry)) ⌝ }
 {
-    let from = 9 * n;
-    let end = 10 * n;
+    let from = slots::SCRATCH * n;
+    let end = slots::INTEGRAL * n;
     let v = &w[from..end];
     let second = quadratic_over(h, v);
     let third = simpson_over(h, v, 2);
@@ -238,11 +243,11 @@ pub(crate) fn integrate(h: f64, n: usize, to: usize, w: &mut [f64])
 fn integrate_from_3(h: f64, n: usize, to: usize, w: &mut [f64])
     requires { ⌜ Target n (length (now w)) to ⌝ }
     ensures { λ _. ⌜ (length (now (w .exit)) ≡ length (now (w .entry)))
-        × Grown to 3 n (λ E. integralAt h (slots n E 9)) (now (w .entry)) (now (w .exit)) ⌝ }
+        × Grown to 3 n (λ E. integralAt h (slots n E scratchSlot)) (now (w .entry)) (now (w .exit)) ⌝ }
 {
     let len = w.len();
-    let from = 9 * n;
-    let end = 10 * n;
+    let from = slots::SCRATCH * n;
+    let end = slots::INTEGRAL * n;
     let mut i = 3;
     while i < n {
         let odd = w[to + (i - 3)] + eighths_over(h, &w[from..end], i);

@@ -1,18 +1,70 @@
-// Vectors in one part of work memory: slot k has the n numbers from k * n on. Slots 0 to 7 are a state in the order of document 01, 8 the radial gradient,
-// 9 and 10 scratch, 11 and 12 the half dissipations of field and momentum, 13 to 15 the rates, 16 to 18 their sums, 19 the points, 20 the radial correction.
+// Vectors in one part of work memory: slot k has the n numbers from k * n on, up to where slot k + 1 begins.
 ghost use mathlib.Core.Path.{_≡_};
 ghost use Prim.Native.Nat.{_+_, _*_, _≤_};
 ghost use lib.ListN.{length};
-ghost use Rattle.vectors.specs.Dissipation.{radialCorrectionOf};
 ghost use Rattle.vectors.specs.Memory.{part, put};
 ghost use Rattle.physics.specs.Vector.{advancedOf};
 ghost use Rattle.physics.specs.DifferenceLaws.{endsSet};
 ghost use Rattle.physics.specs.Slots.{Became};
 ghost use Rattle.physics.specs.Passes.{Room, Inside, grids};
 ghost use Rattle.physics.specs.StepPasses.{TwoInside, advancedBySum};
-use vectors::field_vector::fourth_power;
-use vectors::field_vector::square;
+use vectors::diff::radial_correction;
 use vectors::grid::point;
+
+// The slots are numbers START * n to END * n of work memory, which has WORK * n.
+pub(crate) const START: usize = 8;
+
+pub(crate) const END: usize = 29;
+
+pub(crate) const WORK: usize = 40;
+
+// The first VECTORS slots are a state, in the order of document 01.
+pub(crate) const VECTORS: usize = 8;
+
+pub(crate) const FIELD: usize = 0;
+
+pub(crate) const MOMENTUM: usize = 1;
+
+pub(crate) const ALTERNATE_MASS: usize = 2;
+
+pub(crate) const ENERGY_DENSITY: usize = 3;
+
+pub(crate) const MASS: usize = 4;
+
+pub(crate) const RADIAL_FACTOR: usize = 5;
+
+pub(crate) const LAPSE: usize = 6;
+
+pub(crate) const CHAR_SPEED: usize = 7;
+
+// The radial gradient of the field.
+pub(crate) const GRADIENT: usize = 8;
+
+// An integrand, 1 over the lapse, or the second difference of the field.
+pub(crate) const SCRATCH: usize = 9;
+
+// The running integral of 1 over the lapse.
+pub(crate) const INTEGRAL: usize = 10;
+
+// The half dissipations of field and momentum.
+pub(crate) const HALF_FIELD: usize = 11;
+
+pub(crate) const HALF_MOMENTUM: usize = 12;
+
+// The rates of field, momentum and alternate mass.
+pub(crate) const DT_FIELD: usize = 13;
+
+pub(crate) const DT_MOMENTUM: usize = 14;
+
+pub(crate) const DT_MASS: usize = 15;
+
+// The sums of these three, in the same order.
+pub(crate) const FIELD_SUM: usize = 16;
+
+// The points of the grid, and the radial correction there.
+pub(crate) const POINTS: usize = 19;
+
+pub(crate) const CORRECTION: usize = 20;
 
 // A vector, to the numbers from to on.
 pub(crate) fn copy_vector(vector: &[f64], to: usize, w: &mut [f64])
@@ -107,20 +159,14 @@ pub(crate) fn store_ends(
     w[to + 1] = left1;
 }
 
-fn radial_correction(r: f64) -> f64
-    ensures { λ v. ⌜ v ≡ radialCorrectionOf r ⌝ }
-{
-    fourth_power(1.0 - square(r))
-}
-
 // Slots 19 and 20: the points and the radial correction.
 pub(crate) fn fill_grid(level: u32, n: usize, w: &mut [f64])
     requires { ⌜ Room n (length (now w)) ⌝ }
     ensures { λ _. ⌜ Became n (grids level n) (now (w .entry)) (now (w .exit)) ⌝ }
 {
     let len = w.len();
-    let points = 19 * n;
-    let correction = 20 * n;
+    let points = POINTS * n;
+    let correction = CORRECTION * n;
     let mut i = 0;
     while i < n {
         let r = point(level, i);

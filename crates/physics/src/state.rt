@@ -10,6 +10,7 @@ ghost use Rattle.vectors.specs.Memory.{put};
 ghost use Rattle.physics.specs.Nan.{anyNan};
 ghost use Rattle.physics.specs.Store.{bothHold, storedOf};
 ghost use Rattle.physics.specs.TotalEnergy.{lastOf};
+use crate::slots;
 use vectors::answer::Answer;
 use vectors::answer::and_also;
 use vectors::answer::checked;
@@ -54,7 +55,7 @@ pub fn store(level: u32, from: &[f64], state: &mut [f64]) -> Answer
     ensures { λ r. ⌜ (numberOf r ≡ faultOf level (bothHold level (length (now (from .entry))) (length (now (state .entry)))))
         × (now (state .exit) ≡ leftBy r (storedOf (pointsOf level) (now (from .entry)) (now (state .entry))) (now (state .entry))) ⌝ }
 {
-    let count = 8 * length_at_discretization(level);
+    let count = slots::VECTORS * length_at_discretization(level);
     let answer = checked(level, and_also(count <= from.len(), count <= state.len()));
     match answer {
         Answer::Done => {

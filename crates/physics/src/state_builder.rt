@@ -13,6 +13,7 @@ ghost use Rattle.physics.specs.InitialPasses.{exponents, scales, variabl
 ghost use Rattle.physics.specs.Built.{roomToBuild};
 ghost use Rattle.physics.specs.WorkAfter.{WorkAfter};
 use crate::constraint_computer::compute_all_constraints;
+use crate::slots;
 use crate::slots::copy_within;
 use crate::slots::fill_grid;
 use vectors::answer::Answer;
@@ -35,8 +36,8 @@ pub fn build_initial_state(level: u32, amplitude: f64, work: &mut [f64]) -> Answ
     match answer {
         Answer::Done => {
             let n = length_at_discretization(level);
-            let start = 8 * n;
-            let end = 29 * n;
+            let start = slots::START * n;
+            let end = slots::END * n;
             build_state(level, n, amplitude, &mut work[start..end]);
             Answer::Done
         }
@@ -49,7 +50,7 @@ fn checked_work(level: u32, work: usize) -> Answer
     ensures { λ r. ⌜ numberOf r ≡ faultOf level (roomToBuild level work) ⌝ }
 {
     let n = length_at_discretization(level);
-    checked(level, 40 * n <= work)
+    checked(level, slots::WORK * n <= work)
 }
 
 // Slots 0 to 7: the initial state.
@@ -57,8 +58,8 @@ fn build_state(level: u32, n: usize, amplitude: f64, w: &mut [f64])
     requires { ⌜ (n ≡ pointsOf level) × Room n (length (now w)) ⌝ }
     ensures { λ _. ⌜ Became n (λ S. initials level n amplitude (grids level n S)) (now (w .entry)) (now (w .exit)) ⌝ }
 {
-    let mass = 4 * n;
-    let alternate_mass = 2 * n;
+    let mass = slots::MASS * n;
+    let alternate_mass = slots::ALTERNATE_MASS * n;
     fill_grid(level, n, w);
     initial_variables(n, amplitude, w);
     compute_all_constraints(level, n, w);
@@ -70,8 +71,8 @@ fn initial_variables(n: usize, amplitude: f64, w: &mut [f64])
     requires { ⌜ Room n (length (now w)) ⌝ }
     ensures { λ _. ⌜ Became n (variables n amplitude) (now (w .entry)) (now (w .exit)) ⌝ }
 {
-    let momentum = 1 * n;
-    let end = 2 * n;
+    let momentum = slots::MOMENTUM * n;
+    let end = slots::ALTERNATE_MASS * n;
     initial_exponents(n, w);
     exp_all(&mut w[momentum..end]);
     scale_profile(n, amplitude, w);
@@ -83,9 +84,9 @@ fn initial_exponents(n: usize, w: &mut [f64])
     ensures { λ _. ⌜ Became n (exponents n) (now (w .entry)) (now (w .exit)) ⌝ }
 {
     let len = w.len();
-    let field = 0 * n;
-    let momentum = 1 * n;
-    let points = 19 * n;
+    let field = slots::FIELD * n;
+    let momentum = slots::MOMENTUM * n;
+    let points = slots::POINTS * n;
     let mut i = 0;
     while i < n {
         let exponent = exponent_at(w[points + i]);
@@ -107,7 +108,7 @@ fn scale_profile(n: usize, amplitude: f64, w: &mut [f64])
     ensures { λ _. ⌜ Became n (scales amplitude) (now (w .entry)) (now (w .exit)) ⌝ }
 {
     let len = w.len();
-    let momentum = 1 * n;
+    let momentum = slots::MOMENTUM * n;
     let mut i = 0;
     while i < n {
         w[momentum + i] = amplitude * w[momentum + i];

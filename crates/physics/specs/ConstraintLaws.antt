@@ -34,10 +34,10 @@ normals-wrote n w w' factor e h p =
     let m : length (normalisedOf xs) ≡ n = length-map xs _ ∙ l in
     wrote2 n lapseSlot scratchSlot (λ S. normalisedOf (S lapseSlot)) (λ S. map reciprocalOf (normalisedOf (S lapseSlot))) w w' m (length-map (normalisedOf xs) _ ∙ m) (omega arith) (omega arith) (rw (f, g) at p)
 
--- what the loop of `radials` leaves, where first is entry 0 of the integral
-pub radials-wrote : (n : ℕ) (w w' : List Float) (first : Float) → first ≡ at (slots n w integralSlot) 0 → slotCount * n ≤ length w
-    → w' ≡ put (charSpeedSlot * n) (tab n (speedVal (at (slots n w pointsSlot)) (slots n w lapseSlot) (slots n w integralSlot) first)) (put (radialFactorSlot * n) (tab n (radialVal (at (slots n w pointsSlot)) (slots n w lapseSlot) (slots n w integralSlot) first)) w) → Became n (radials n) w w'
-radials-wrote n w w' first e h p =
+-- what the loop of `radials` leaves, where integral₀ is entry 0 of the integral
+pub radials-wrote : (n : ℕ) (w w' : List Float) (integral₀ : Float) → integral₀ ≡ at (slots n w integralSlot) 0 → slotCount * n ≤ length w
+    → w' ≡ put (charSpeedSlot * n) (tab n (speedVal (at (slots n w pointsSlot)) (slots n w lapseSlot) (slots n w integralSlot) integral₀)) (put (radialFactorSlot * n) (tab n (radialVal (at (slots n w pointsSlot)) (slots n w lapseSlot) (slots n w integralSlot) integral₀)) w) → Became n (radials n) w w'
+radials-wrote n w w' integral₀ e h p =
     wrote2 n radialFactorSlot charSpeedSlot (λ S. tab n (radialVal (at (S pointsSlot)) (S lapseSlot) (S integralSlot) (at (S integralSlot) 0))) (λ S. tab n (speedVal (at (S pointsSlot)) (S lapseSlot) (S integralSlot) (at (S integralSlot) 0))) w w' (length-tab n _) (length-tab n _) (omega arith) (omega arith) (rw e at p)
 
 -- the four passes of the lapse

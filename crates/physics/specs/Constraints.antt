@@ -52,7 +52,7 @@ energyDensityOf level gradient momentum = tab (pointsOf level) (λ i. energyDens
 
 -- `compute_radial_factor`, from the running integral of 1 over the lapse: (lapse / r) × (integral - its entry 0)
 abbrev pub radialFactorAt : Float → Float → Float → Float → Float
-radialFactorAt lapse r integral first = mul binary64 (div binary64 lapse r) (sub binary64 integral first)
+radialFactorAt lapse r integral integral₀ = mul binary64 (div binary64 lapse r) (sub binary64 integral integral₀)
 
 -- "Radial factor 0 is set to 1 after 0-times-infinity arose there."
 unfoldable pub radialFactorOf : ℕ → List Float → List Float

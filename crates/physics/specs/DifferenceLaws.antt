@@ -1,4 +1,4 @@
--- A difference of slot 0, written to slot k: two numbers at each end and a loop between them. g xs i is the difference of xs at point i.
+-- A difference of the field, written to slot k: two numbers at each end and a loop between them. g xs i is the difference of xs at point i.
 use mathlib.Core.Path.{_≡_, refl, sym, ap, _∙_}
 use mathlib.Core.Bool.{false}
 use mathlib.Core.List.{List}
@@ -13,12 +13,12 @@ use lib.Ieee.{Float, nan}
 use Rattle.vectors.specs.Memory.{tab}
 use Rattle.vectors.specs.MemoryLaws.{fill, Filled, Grown, grown-step, filled-none, step, step-at, filled-put, length-tab, part-same, apart-or}
 use Rattle.physics.specs.Fills.{fill-set}
-use Rattle.physics.specs.SlotNumbers.{fieldSlot}
+use Rattle.physics.specs.SlotNumbers.{fieldSlot, momentumSlot}
 use Rattle.physics.specs.Slots.{slots, upd, Became, slots-apart, lends, lent-slot, length-slot, wrote}
 
--- slot 0 as code lends it
+-- the field as code lends it
 abbrev pub lentField : ℕ → List Float → List Float
-lentField n w = take (1 * n - 0 * n) (drop (0 * n) w)
+lentField n w = take (momentumSlot * n - fieldSlot * n) (drop (fieldSlot * n) w)
 
 -- the two numbers at each end of the n from at on
 abbrev pub endsSet : ℕ → ℕ → Float → Float → Float → Float → List Float → List Float
@@ -35,7 +35,7 @@ slot-stored n k j i w v p h =
     ])
 
 module _ (n k : ℕ) (g : List Float → ℕ → Float) where
-  -- a turn of the loop: the number is the difference of whatever list slot 0 holds
+  -- a turn of the loop: the number is the difference of whatever list the field is
   pub difference-turn : {i : ℕ} {w₀ w : List Float} {v : Float} → Grown (k * n) 2 i (λ E. g (slots n E fieldSlot)) w₀ w → i ≤ n → n ≤ length w → eqb 0 k ≡ false
       → ((xs : List Float) → length xs ≡ n → lentField n w ≡ xs → v ≡ g xs i)
       → Grown (k * n) 2 (i + 1) (λ E. g (slots n E fieldSlot)) w₀ (set w (k * n + i) v)

@@ -28,13 +28,13 @@ pub runs-put : (n at : ℕ) (g : List Float → ℕ → Float) (w w₁ w₂ w₃
 runs-put n at g w w₁ w₂ w₃ h A B C = filled-put nan (C .grow w (B .grow w (A .grow w (filled-none at (g w) w)))) h
 
 pub run-left : (n lo : ℕ) → 9 ≤ n → lo ≤ 3 → Run n lo 3 0
-run-left n lo h l = record { order = l; within = omega arith; first = omega arith; windows = λ i a b. window-left n i b }
+run-left n lo h l = record { order = l; within = omega arith; leftmost = omega arith; windows = λ i a b. window-left n i b }
 
 pub run-inner : (n : ℕ) → 9 ≤ n → Run n 3 (n - 3) 3
-run-inner n h = record { order = omega arith; within = omega arith; first = omega arith; windows = λ i a b. window-inner n i a b }
+run-inner n h = record { order = omega arith; within = omega arith; leftmost = omega arith; windows = λ i a b. window-inner n i a b }
 
 pub run-right : (n : ℕ) → 9 ≤ n → Run n (n - 3) n 6
-run-right n h = record { order = omega arith; within = omega arith; first = omega arith; windows = λ i a b. window-right n i h a b }
+run-right n h = record { order = omega arith; within = omega arith; leftmost = omega arith; windows = λ i a b. window-right n i h a b }
 
 pub half-tab : (c : ℕ → Float) (xs : List Float) (n : ℕ) → length xs ≡ n → tab n (halfVal c xs) ≡ halfOn c xs
 unfolding halfOn

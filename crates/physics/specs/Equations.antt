@@ -18,11 +18,11 @@ use Rattle.physics.specs.Vector.{at}
 abbrev pub fieldRateAt : Float → Float → Float
 fieldRateAt charSpeed momentum = mul binary64 charSpeed momentum
 
--- `calculate_dt_conj_momentum`: char speed × second difference + ((radial factor + 1) × first difference) / (r × lapse)
+-- `calculate_dt_conj_momentum`: char speed × second difference + ((radial factor + 1) × gradient) / (r × lapse)
 abbrev pub momentumRateAt : Float → Float → Float → Float → Float → Float → Float
-momentumRateAt charSpeed second radialFactor first r lapse =
+momentumRateAt charSpeed second radialFactor gradient r lapse =
     add binary64 (mul binary64 charSpeed second)
-    (div binary64 (mul binary64 (add binary64 radialFactor (whole 1)) first) (mul binary64 r lapse))
+    (div binary64 (mul binary64 (add binary64 radialFactor (whole 1)) gradient) (mul binary64 r lapse))
 
 -- "Entry 0 of the momentum derivative is (3 × second difference)/lapse."
 abbrev pub originRateAt : Float → Float → Float
@@ -42,11 +42,11 @@ dtFieldOf level field momentum c = tab (pointsOf level) (λ i. add binary64 (fie
 unfoldable pub dtConjMomentumOf : ℕ → List Float → List Float → Constraints → List Float
 unfolding dissipationAt diffOf diff2Of pointOf tab
 dtConjMomentumOf level field momentum c =
-    let first = radialGradientOf level field in
+    let gradient = radialGradientOf level field in
     let second = diff2Of (spacingOf level) field in
     tab (pointsOf level) (λ i. add binary64
     (cond (eqb i 0) (originRateAt (at second i) (at (c .lapse) i))
-    (momentumRateAt (at (c .charSpeed) i) (at second i) (at (c .radialFactor) i) (at first i) (pointOf level i) (at (c .lapse) i)))
+    (momentumRateAt (at (c .charSpeed) i) (at second i) (at (c .radialFactor) i) (at gradient i) (pointOf level i) (at (c .lapse) i)))
     (dissipationAt level momentum i))
 
 -- the rate of the alternate mass, which has no dissipation

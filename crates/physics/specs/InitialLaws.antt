@@ -21,7 +21,7 @@ use Rattle.physics.specs.Constraints.{constraintsOf}
 use Rattle.physics.specs.InitialPasses.{exponentVal, exponents, scales, profileOn, variables, initials}
 use Rattle.physics.specs.InitialState.{waveProfileOf, initialStateOf}
 use Rattle.physics.specs.Rk4.{stateOf}
-use Rattle.physics.specs.SlotNumbers.{momentumSlot, pointsSlot}
+use Rattle.physics.specs.SlotNumbers.{momentumSlot, pointsSlot, slotsStart, slotsEnd}
 use Rattle.physics.specs.Slots.{Slots, slots, upd, Became}
 use Rattle.physics.specs.StepLaws.{stateOfSlots, grid-points}
 use Rattle.physics.specs.Vector.{at}
@@ -72,8 +72,8 @@ unfolding initialStateOf stateOf
 initial-time level amplitude = refl
 
 pub built-made : (level n : ℕ) (amplitude : Float) (work w' : List Float) → n ≡ pointsOf level → 40 * n ≤ length work
-    → Became n (λ S. initials level n amplitude (grids level n S)) (take (29 * n - 8 * n) (drop (8 * n) work)) w'
-    → Made level (initialStateOf level amplitude) work (putMid (8 * n) (29 * n - 8 * n) work w')
+    → Became n (λ S. initials level n amplitude (grids level n S)) (take (slotsEnd * n - slotsStart * n) (drop (slotsStart * n) work)) w'
+    → Made level (initialStateOf level amplitude) work (putMid (slotsStart * n) (slotsEnd * n - slotsStart * n) work w')
 built-made level n amplitude work w' p h B =
     let s = initialStateOf level amplitude in
     let e : stateOfSlots (s .time) (slots n w') ≡ s =

@@ -1,5 +1,4 @@
--- What each pass over the slots of work memory makes of them. Slots 0 to 7 are a state in the order of 01, 8 the radial gradient, 9 and 10 scratch,
--- 11 and 12 the half dissipations of field and momentum, 13 to 15 the rates, 16 to 18 their sums, 19 the points, 20 the radial correction.
+-- What each pass over the slots of work memory makes of them.
 use mathlib.Core.Path.{_≡_}
 use mathlib.Core.Bool.{true, cond}
 use mathlib.Core.List.{List, map}
@@ -46,7 +45,7 @@ pub record Inside (len from to n : ℕ) : Type 0 where
   pub target : to + n ≤ len
   pub far : apart to n from n ≡ true
 
--- room for the slots, and n numbers from to on that lie apart from slot 9
+-- room for the slots, and n numbers from to on that lie apart from the scratch slot
 pub record Target (n len to : ℕ) : Type 0 where
   pub many : 9 ≤ n
   pub odd : n % 2 ≡ 1
@@ -91,10 +90,10 @@ abbrev pub integrals : Float → Slots → Slots
 integrals h S = upd integralSlot (integralOf h (S scratchSlot)) S
 
 abbrev pub radialVal : (ℕ → Float) → List Float → List Float → Float → ℕ → Float
-radialVal r lapse integral first i = cond (eqb i 0) (whole 1) (radialFactorAt (at lapse i) (r i) (at integral i) first)
+radialVal r lapse integral integral₀ i = cond (eqb i 0) (whole 1) (radialFactorAt (at lapse i) (r i) (at integral i) integral₀)
 
 abbrev pub speedVal : (ℕ → Float) → List Float → List Float → Float → ℕ → Float
-speedVal r lapse integral first i = div binary64 (radialVal r lapse integral first i) (at lapse i)
+speedVal r lapse integral integral₀ i = div binary64 (radialVal r lapse integral integral₀ i) (at lapse i)
 
 abbrev pub radials : ℕ → Slots → Slots
 radials n S = upd charSpeedSlot (tab n (speedVal (at (S pointsSlot)) (S lapseSlot) (S integralSlot) (at (S integralSlot) 0))) (upd radialFactorSlot (tab n (radialVal (at (S pointsSlot)) (S lapseSlot) (S integralSlot) (at (S integralSlot) 0))) S)
@@ -156,9 +155,9 @@ abbrev pub fieldRateVal : Float → List Float → List Float → List Float →
 fieldRateVal scale charSpeed momentum half i = add binary64 (fieldRateAt (at charSpeed i) (at momentum i)) (dampingVal scale half i)
 
 abbrev pub momentumRateVal : (ℕ → Float) → Float → List Float → List Float → List Float → List Float → List Float → List Float → ℕ → Float
-momentumRateVal r scale charSpeed second radialFactor first lapse half i =
+momentumRateVal r scale charSpeed second radialFactor gradient lapse half i =
     add binary64
-    (cond (eqb i 0) (originRateAt (at second i) (at lapse i)) (momentumRateAt (at charSpeed i) (at second i) (at radialFactor i) (at first i) (r i) (at lapse i)))
+    (cond (eqb i 0) (originRateAt (at second i) (at lapse i)) (momentumRateAt (at charSpeed i) (at second i) (at radialFactor i) (at gradient i) (r i) (at lapse i)))
     (dampingVal scale half i)
 
 abbrev pub massRateVal : (ℕ → Float) → List Float → List Float → List Float → List Float → ℕ → Float
@@ -197,10 +196,10 @@ momentumRates n S = upd dtMomentumSlot (tab n (momentumRateIn S)) S
 pub record Run (n lo hi back : ℕ) : Type 0 where
   pub order : lo ≤ hi
   pub within : hi ≤ n
-  pub first : back ≤ lo
+  pub leftmost : back ≤ lo
   pub windows : (i : ℕ) → lo ≤ i → i < hi → Window n i back
 
--- room for the slots, and n numbers from from on and from to on that lie apart from them and from slot 20
+-- room for the slots, and n numbers from from on and from to on that lie apart from them and from the radial correction
 pub record HalfRun (n len from to : ℕ) : Type 0 where
   pub many : 9 ≤ n
   pub fits : slotCount * n ≤ len
@@ -210,7 +209,7 @@ pub record HalfRun (n len from to : ℕ) : Type 0 where
 
 -- ---- the equations of motion, by their definitions
 
--- ready, with the gradient of slot 0 in slot 8
+-- ready, with the gradient of the field in its slot
 pub record ReadyEquations (level n : ℕ) (w : List Float) : Type 0 where
   pub many : 9 ≤ n
   pub odd : n % 2 ≡ 1

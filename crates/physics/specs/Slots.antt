@@ -99,8 +99,8 @@ pub slot-is : (n k j : ℕ) (w : List Float) → j < n → getD w (k * n + j) na
 unfolding slots
 slot-is n k j w h = sym (getD-part (k * n) n w j nan h)
 
-pub slot-first : (n k : ℕ) (w : List Float) → 1 ≤ n → getD w (k * n) nan ≡ getD (slots n w k) 0 nan
-slot-first n k w h = ap (λ (j : ℕ). getD w j nan) (sym (add-zero (k * n))) ∙ slot-is n k 0 w h
+pub slot-start : (n k : ℕ) (w : List Float) → 1 ≤ n → getD w (k * n) nan ≡ getD (slots n w k) 0 nan
+slot-start n k w h = ap (λ (j : ℕ). getD w j nan) (sym (add-zero (k * n))) ∙ slot-is n k 0 w h
 
 pub length-slot : (n k : ℕ) (w : List Float) → k * n + n ≤ length w → length (slots n w k) ≡ n
 unfolding slots

@@ -30,24 +30,24 @@ joined (xs ∷ more) = xs ++ joined more
 -- each has n numbers
 data EachOf (n : ℕ) : List (List Float) → Type 0 where
   none : EachOf n []
-  first : {xs : List Float} {more : List (List Float)} → length xs ≡ n → EachOf n more → EachOf n (xs ∷ more)
+  also : {xs : List Float} {more : List (List Float)} → length xs ≡ n → EachOf n more → EachOf n (xs ∷ more)
 
 module _ (n : ℕ) where
   length-at : (vectors : List (List Float)) → EachOf n vectors → (k : ℕ) → k < length vectors → length (getD vectors k []) ≡ n
   length-at [] none k h = absurd (not-suc-le-zero h)
-  length-at (xs ∷ more) (first l e) zero h = l
-  length-at (xs ∷ more) (first l e) (suc k) h = length-at more e k (le-of-suc-le-suc h)
+  length-at (xs ∷ more) (also l e) zero h = l
+  length-at (xs ∷ more) (also l e) (suc k) h = length-at more e k (le-of-suc-le-suc h)
 
   length-joined : (vectors : List (List Float)) → EachOf n vectors → length (joined vectors) ≡ length vectors * n
   unfolding joined
   length-joined [] none = omega arith
-  length-joined (xs ∷ more) (first l e) = length-append xs (joined more) ∙ omega (arith, length-joined more e, suc-mul (length more) n)
+  length-joined (xs ∷ more) (also l e) = length-append xs (joined more) ∙ omega (arith, length-joined more e, suc-mul (length more) n)
 
   part-joined : (vectors : List (List Float)) → EachOf n vectors → (k : ℕ) → k < length vectors → part (k * n) n (joined vectors) ≡ getD vectors k []
   unfolding joined part
   part-joined [] none k h = absurd (not-suc-le-zero h)
-  part-joined (xs ∷ more) (first l e) zero h = let z : 0 * n ≡ 0 = omega arith in rw z (take-at xs (joined more) n l)
-  part-joined (xs ∷ more) (first l e) (suc k) h =
+  part-joined (xs ∷ more) (also l e) zero h = let z : 0 * n ≡ 0 = omega arith in rw z (take-at xs (joined more) n l)
+  part-joined (xs ∷ more) (also l e) (suc k) h =
       let p : suc k * n ≡ length xs + k * n = omega (arith, suc-mul k n) in
       rw (p, drop-append-add xs (joined more) (k * n)) (part-joined more e k (le-of-suc-le-suc h))
 
@@ -71,8 +71,8 @@ layOut-joined s = rw (append-nil (s .charSpeed))
 each-sized : {n : ℕ} {s : State} → Sized n s → EachOf n (vectors s)
 unfolding vectors
 each-sized z =
-    first (z .field) (first (z .conjMomentum) (first (z .alternateMass) (first (z .energyDensity)
-    (first (z .mass) (first (z .radialFactor) (first (z .lapse) (first (z .charSpeed) none)))))))
+    also (z .field) (also (z .conjMomentum) (also (z .alternateMass) (also (z .energyDensity)
+    (also (z .mass) (also (z .radialFactor) (also (z .lapse) (also (z .charSpeed) none)))))))
 
 ofVectors : Float → (ℕ → List Float) → State
 ofVectors time v =

@@ -20,7 +20,7 @@ use Rattle.physics.specs.Passes.{Room, Ready, ReadyEquations, gradients,
 use Rattle.physics.specs.PassLaws.{renamed, ready-after}
 use Rattle.physics.specs.SlotNumbers.{fieldSlot, momentumSlot, alternateMassSlot, energyDensitySlot, massSlot, radialFactorSlot, lapseSlot, charSpeedSlot, gradientSlot, dtFieldSlot, dtMomentumSlot, dtMassSlot, fieldSumSlot, momentumSumSlot, massSumSlot, pointsSlot, correctionSlot}
 use Rattle.physics.specs.Slots.{Slots, slots, upd, Became}
-use Rattle.physics.specs.StepPasses.{ReadyStep, advancedBySum, firsts, stages, doubledStages, lasts, steps}
+use Rattle.physics.specs.StepPasses.{ReadyStep, advancedBySum, firstStages, stages, doubledStages, lasts, steps}
 use Rattle.physics.specs.Vector.{at, advancedOf}
 use Rattle.physics.specs.VectorLaws.{tab-same, tab-at}
 
@@ -80,9 +80,9 @@ endOf level time c s a u =
     (advancedBySum n c (s .alternateMass) (a .dtAlternateMass) (u .dtAlternateMass))
 
 module _ (level : ℕ) (time : Float) (T : Slots) where
-  first-holds : (S : Slots) → let s = stateOfSlots time T in let u = equationsOf level (s .field) (s .conjMomentum) (storedConstraints s) in Holds u u (firsts level T S)
+  first-stage-holds : (S : Slots) → let s = stateOfSlots time T in let u = equationsOf level (s .field) (s .conjMomentum) (storedConstraints s) in Holds u u (firstStages level T S)
   unfolding equationsOf
-  first-holds S = record { rates = refl; sums = refl }
+  first-stage-holds S = record { rates = refl; sums = refl }
 
   stage-same : (c : Float) (S : Slots) → Holds (stageOf level (stateOfSlots time T) c (ratesIn S)) (sumsIn S) (stages level (pointsOf level) c T S)
   unfolding stageOf equationsOf constraintsOf
@@ -138,7 +138,7 @@ step-is level time delta T S =
     let s = stateOfSlots time T in
     let c = mul binary64 half delta in
     last-holds level time T (div binary64 delta (whole 6)) (add binary64 time delta)
-    (stage-holds level time T delta (doubled-holds level time T c (doubled-holds level time T c (first-holds level time T S))))
+    (stage-holds level time T delta (doubled-holds level time T c (doubled-holds level time T c (first-stage-holds level time T S))))
     ∙ end-is level (add binary64 time delta) (div binary64 delta (whole 6)) s _ _ _ _
 
 -- ---- the eight slots one after another

@@ -29,13 +29,13 @@ pub record ReadyStep (level n ls : ℕ) (w : List Float) : Type 0 where
   pub fits : slotCount * n ≤ length w
   pub ready : Ready level n w
 
--- n numbers from first on, n from second on, and n from to on that lie apart from both
-pub record TwoInside (len first second to n : ℕ) : Type 0 where
-  pub source : first + n ≤ len
-  pub other : second + n ≤ len
+-- n numbers from sums on, n from rates on, and n from to on that lie apart from both
+pub record TwoInside (len sums rates to n : ℕ) : Type 0 where
+  pub source : sums + n ≤ len
+  pub other : rates + n ≤ len
   pub target : to + n ≤ len
-  pub far : apart to n first n ≡ true
-  pub far-other : apart to n second n ≡ true
+  pub far : apart to n sums n ≡ true
+  pub far-other : apart to n rates n ≡ true
 
 -- x + c × (a + u)
 unfoldable pub advancedBySum : ℕ → Float → List Float → List Float → List Float → List Float
@@ -60,8 +60,8 @@ abbrev pub doubles : ℕ → Slots → Slots
 doubles n S =
     upd massSumSlot (advancedOf n (whole 2) (S massSumSlot) (S dtMassSlot)) (upd momentumSumSlot (advancedOf n (whole 2) (S momentumSumSlot) (S dtMomentumSlot)) (upd fieldSumSlot (advancedOf n (whole 2) (S fieldSumSlot) (S dtFieldSlot)) S))
 
-abbrev pub firsts : ℕ → Slots → Slots → Slots
-firsts level T S = let L = loads T S in begins (derivatives level (upd gradientSlot (radialGradientOf level (L fieldSlot)) L))
+abbrev pub firstStages : ℕ → Slots → Slots → Slots
+firstStages level T S = let L = loads T S in begins (derivatives level (upd gradientSlot (radialGradientOf level (L fieldSlot)) L))
 
 -- field and momentum c along the rates
 abbrev pub moves : ℕ → Float → Slots → Slots → Slots
@@ -90,4 +90,4 @@ steps level n delta T S =
     (stages level n delta T
     (doubledStages level n (mul binary64 half delta) T
     (doubledStages level n (mul binary64 half delta) T
-    (firsts level T S))))
+    (firstStages level T S))))

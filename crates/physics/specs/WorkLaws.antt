@@ -16,6 +16,7 @@ use Rattle.vectors.specs.GridLaws.{Level, points-in, points-least}
 use Rattle.vectors.specs.Memory.{part, put}
 use Rattle.vectors.specs.MemoryLaws.{back, length-put, length-part, getD-part, getD-put-in, getD-put-above}
 use Rattle.physics.specs.Rk4.{stateOf, rk4Of}
+use Rattle.physics.specs.SlotNumbers.{slotCount, slotsStart, slotsEnd}
 use Rattle.physics.specs.Slots.{Slots, slots, Became}
 use Rattle.physics.specs.State.{State, stateIn, layOut}
 use Rattle.physics.specs.StepLaws.{stateOfSlots, step-is, slots-front}
@@ -71,17 +72,17 @@ drop-put-beyond at k ys xs h l =
     ext-getD nan (drop k (put at ys xs)) (drop k xs) (simp (length-drop, long))
     (λ i b. getD-drop k (put at ys xs) i nan ∙ getD-put-above at ys xs (k + i) nan h (omega arith) ∙ sym (getD-drop k xs i nan))
 
--- the slots w of the part from 8n to 29n came back as w', whose first eight are those of s
+-- the slots w, lent from work memory, came back as w', whose first eight are those of s
 pub made-in : (level n : ℕ) (s : State) (f : Slots → Slots) (work w' : List Float) → n ≡ pointsOf level → 40 * n ≤ length work
-    → Became n f (take (29 * n - 8 * n) (drop (8 * n) work)) w' → stateOfSlots (s .time) (slots n w') ≡ s → Made level s work (putMid (8 * n) (29 * n - 8 * n) work w')
+    → Became n f (take (slotsEnd * n - slotsStart * n) (drop (slotsStart * n) work)) w' → stateOfSlots (s .time) (slots n w') ≡ s → Made level s work (putMid (slotsStart * n) (slotsEnd * n - slotsStart * n) work w')
 made-in level n s f work w' p h B e =
-    let size : length w' ≡ 21 * n = B .long ∙ simp (length-take, length-drop) (omega arith) in
-    let same = back (8 * n) (29 * n) w' w' work refl (omega arith) in
-    let fits : 8 * n + length w' ≤ length work = omega arith in
+    let size : length w' ≡ slotCount * n = B .long ∙ simp (length-take, length-drop) (omega arith) in
+    let same = back (slotsStart * n) (slotsEnd * n) w' w' work refl (omega arith) in
+    let fits : slotsStart * n + length w' ≤ length work = omega arith in
     record {
-      long = ap length same ∙ length-put (8 * n) w' work fits;
-      made = rw (sym p) (rw same (part-put-front (8 * n) (8 * n) w' work fits (omega arith) ∙ slots-front n w' (s .time) ∙ ap layOut e));
-      beyond = rw (sym p) (rw same (drop-put-beyond (8 * n) (40 * n) w' work fits (omega arith)));
+      long = ap length same ∙ length-put (slotsStart * n) w' work fits;
+      made = rw (sym p) (rw same (part-put-front (slotsStart * n) (8 * n) w' work fits (omega arith) ∙ slots-front n w' (s .time) ∙ ap layOut e));
+      beyond = rw (sym p) (rw same (drop-put-beyond (slotsStart * n) (40 * n) w' work fits (omega arith)));
     }
 
 -- ---- a step
@@ -109,8 +110,8 @@ unfolding stateIn
 stepped-time level time delta state = sym (step-time level delta (stateIn (pointsOf level) time state))
 
 pub stepped-made : (level n : ℕ) (time delta : Float) (state work w' : List Float) → n ≡ pointsOf level → 40 * n ≤ length work
-    → Became n (λ S. steps level n delta (slots n state) (grids level n S)) (take (29 * n - 8 * n) (drop (8 * n) work)) w'
-    → Made level (rk4Of level delta (stateIn (pointsOf level) time state)) work (putMid (8 * n) (29 * n - 8 * n) work w')
+    → Became n (λ S. steps level n delta (slots n state) (grids level n S)) (take (slotsEnd * n - slotsStart * n) (drop (slotsStart * n) work)) w'
+    → Made level (rk4Of level delta (stateIn (pointsOf level) time state)) work (putMid (slotsStart * n) (slotsEnd * n - slotsStart * n) work w')
 stepped-made level n time delta state work w' p h B =
     let next = rk4Of level delta (stateIn (pointsOf level) time state) in
     let e : stateOfSlots (next .time) (slots n w') ≡ next =

@@ -26,7 +26,7 @@ use vectors::rows::DIFF_RIGHT1;
 use vectors::rows::row5;
 use vectors::rows::row5_hollow;
 
-// Slots 5 to 8, the constraints that the equations of motion read, from the field and the momentum in slots 0 and 1. Slots 9 and 10 are used.
+// The constraints that the equations of motion read, and the gradient, from field and momentum. The scratch and the integral slot are used.
 pub(crate) fn compute_constraints(level: u32, n: usize, w: &mut [f64])
     requires { ⌜ Ready level n (now w) ⌝ }
     ensures { λ _. ⌜ Became n (constraints level) (now (w .entry)) (now (w .exit)) ⌝ }
@@ -37,7 +37,7 @@ pub(crate) fn compute_constraints(level: u32, n: usize, w: &mut [f64])
     compute_radial_factor(h, n, w);
 }
 
-// Slot 8: the radial gradient of the field.
+// The radial gradient of the field.
 pub(crate) fn compute_radial_gradient(h: f64, n: usize, w: &mut [f64])
     requires { ⌜ Room n (length (now w)) ⌝ }
     ensures { λ _. ⌜ Became n (gradients h) (now (w .entry)) (now (w .exit)) ⌝ }
@@ -73,7 +73,7 @@ fn radial_gradient_inner(h: f64, n: usize, w: &mut [f64])
     }
 }
 
-// Slot 6: the lapse, and slot 9: 1 over it.
+// The lapse, and 1 over it in the scratch slot.
 fn compute_lapse(h: f64, n: usize, w: &mut [f64])
     requires { ⌜ Room n (length (now w)) ⌝ }
     ensures { λ _. ⌜ Became n (lapses n h) (now (w .entry)) (now (w .exit)) ⌝ }
@@ -92,7 +92,7 @@ fn integrand_at(r: f64, gradient: f64, momentum: f64) -> f64
     -1.0 * r * (gradient * gradient + momentum * momentum)
 }
 
-// Slot 9: the integrand of the log lapse.
+// The integrand of the log lapse, to the scratch slot.
 fn compute_integrand(n: usize, w: &mut [f64])
     requires { ⌜ Room n (length (now w)) ⌝ }
     ensures { λ _. ⌜ Became n (integrands n) (now (w .entry)) (now (w .exit)) ⌝ }
@@ -115,7 +115,7 @@ fn scaled(factor: f64, x: f64) -> f64
     factor * x
 }
 
-// The lapse is free up to a constant factor: slot 6 is scaled to 1 at the last point. Slot 9: 1 over it.
+// The lapse is free up to a constant factor: it is scaled to 1 at the last point. To the scratch slot: 1 over it.
 fn normalise_lapse(n: usize, w: &mut [f64])
     requires { ⌜ Room n (length (now w)) ⌝ }
     ensures { λ _. ⌜ Became n normals (now (w .entry)) (now (w .exit)) ⌝ }
@@ -133,7 +133,7 @@ fn normalise_lapse(n: usize, w: &mut [f64])
     }
 }
 
-// Slots 5 and 7: the radial factor and the char speed, from slots 6 and 9. Slot 10 is used.
+// The radial factor and the char speed, from the lapse and 1 over it. The integral slot is used.
 fn compute_radial_factor(h: f64, n: usize, w: &mut [f64])
     requires { ⌜ Room n (length (now w)) ⌝ }
     ensures { λ _. ⌜ Became n (radialFactors n h) (now (w .entry)) (now (w .exit)) ⌝ }
@@ -143,10 +143,10 @@ fn compute_radial_factor(h: f64, n: usize, w: &mut [f64])
     radial_factor_and_char_speed(n, w);
 }
 
-fn radial_factor_at(lapse: f64, r: f64, integral: f64, first: f64) -> f64
-    ensures { λ v. ⌜ v ≡ radialFactorAt lapse r integral first ⌝ }
+fn radial_factor_at(lapse: f64, r: f64, integral: f64, integral0: f64) -> f64
+    ensures { λ v. ⌜ v ≡ radialFactorAt lapse r integral integral0 ⌝ }
 {
-    lapse / r * (integral - first)
+    lapse / r * (integral - integral0)
 }
 
 fn quotient(x: f64, y: f64) -> f64
@@ -164,19 +164,19 @@ fn radial_factor_and_char_speed(n: usize, w: &mut [f64])
     let lapse = slots::LAPSE * n;
     let char_speed = slots::CHAR_SPEED * n;
     let integral = slots::INTEGRAL * n;
-    let first = w[integral];
+    let integral0 = w[integral];
     let x = quotient(1.0, w[lapse]);
     w[radial_factor] = 1.0;
     w[char_speed] = x;
-    radial_factor_and_char_speed_from_1(n, first, w);
+    radial_factor_and_char_speed_from_1(n, integral0, w);
 }
 
-// The same from point 1 on, where first is the integral at point 0.
-fn radial_factor_and_char_speed_from_1(n: usize, first: f64, w: &mut [f64])
+// The same from point 1 on, where integral0 is the integral at point 0.
+fn radial_factor_and_char_speed_from_1(n: usize, integral0: f64, w: &mut [f64])
     requires { ⌜ Room n (length (now w)) ⌝ }
     ensures { λ _. ⌜ (length (now (w .exit)) ≡ length (now (w .entry)))
-        × Grown2 (radialFactorSlot * n) (charSpeedSlot * n) 1 n (λ E. radialVal (at (slots n E pointsSlot)) (slots n E lapseSlot) (slots n E integralSlot) first)
-        (λ E. speedVal (at (slots n E pointsSlot)) (slots n E lapseSlot) (slots n E integralSlot) first) (now (w .entry)) (now (w .exit)) ⌝ }
+        × Grown2 (radialFactorSlot * n) (charSpeedSlot * n) 1 n (λ E. radialVal (at (slots n E pointsSlot)) (slots n E lapseSlot) (slots n E integralSlot) integral0)
+        (λ E. speedVal (at (slots n E pointsSlot)) (slots n E lapseSlot) (slots n E integralSlot) integral0) (now (w .entry)) (now (w .exit)) ⌝ }
 {
     let len = w.len();
     let radial_factor = slots::RADIAL_FACTOR * n;
@@ -186,7 +186,7 @@ fn radial_factor_and_char_speed_from_1(n: usize, first: f64, w: &mut [f64])
     let points = slots::POINTS * n;
     let mut i = 1;
     while i < n {
-        let a = radial_factor_at(w[lapse + i], w[points + i], w[integral + i], first);
+        let a = radial_factor_at(w[lapse + i], w[points + i], w[integral + i], integral0);
         let b = quotient(a, w[lapse + i]);
         w[radial_factor + i] = a;
         w[char_speed + i] = b;
@@ -206,7 +206,7 @@ fn mass_at(r: f64, factor: f64) -> f64
     0.5 * r * (1.0 - factor)
 }
 
-// Slots 3 and 4: the energy density and the mass, which no stage reads.
+// The energy density and the mass, which no stage reads.
 fn compute_energy_and_mass(n: usize, w: &mut [f64])
     requires { ⌜ Room n (length (now w)) ⌝ }
     ensures { λ _. ⌜ Became n (energies n) (now (w .entry)) (now (w .exit)) ⌝ }
@@ -228,7 +228,7 @@ fn compute_energy_and_mass(n: usize, w: &mut [f64])
     }
 }
 
-// Slots 3 to 7: all constraints.
+// All constraints.
 pub(crate) fn compute_all_constraints(level: u32, n: usize, w: &mut [f64])
     requires { ⌜ Ready level n (now w) ⌝ }
     ensures { λ _. ⌜ Became n (fullConstraints level) (now (w .entry)) (now (w .exit)) ⌝ }

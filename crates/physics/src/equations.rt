@@ -28,7 +28,8 @@ use vectors::rows::row6;
 use vectors::rows::row6_descending;
 use vectors::rows::row7_hollow;
 
-// Slots 13 to 15: the time derivatives of field, momentum and alternate mass, from slots 0, 1 and 5 to 8. Slots 9, 11 and 12 are used.
+// The rates: the time derivatives of field, momentum and alternate mass, from these, the constraints and the gradient. The scratch slot and the half
+// dissipations are used.
 pub(crate) fn equations_of_motion(level: u32, n: usize, w: &mut [f64])
     requires { ⌜ ReadyEquations level n (now w) ⌝ }
     ensures { λ _. ⌜ Became n (derivatives level) (now (w .entry)) (now (w .exit)) ⌝ }
@@ -46,7 +47,7 @@ fn dissipation_scale(h: f64) -> f64
     DISSIPATION_FACTOR / h / 64.0
 }
 
-// Slots 11 and 12: the radial correction times the third difference, of field and momentum.
+// The half dissipations: the radial correction times the third difference, of field and momentum.
 fn half_dissipations(n: usize, w: &mut [f64])
     requires { ⌜ Room n (length (now w)) ⌝ }
     ensures { λ _. ⌜ Became n halves (now (w .entry)) (now (w .exit)) ⌝ }
@@ -102,7 +103,7 @@ fn third_difference_times(factor: f64, sum: f64) -> f64
     factor * (sum / 8.0)
 }
 
-// Slot 9: the second difference of the field.
+// The second difference of the field, to the scratch slot.
 fn second_difference(h: f64, n: usize, w: &mut [f64])
     requires { ⌜ Room n (length (now w)) ⌝ }
     ensures { λ _. ⌜ Became n (seconds h) (now (w .entry)) (now (w .exit)) ⌝ }
@@ -148,7 +149,7 @@ fn compute_rates(n: usize, scale: f64, w: &mut [f64])
     calculate_dt_alternate_mass(n, w);
 }
 
-// Slots 13 and 14: the dissipation of field and momentum, from slots 11 and 12.
+// The dissipation of field and momentum, from their half dissipations, to the slots of their rates.
 fn dissipations(n: usize, scale: f64, w: &mut [f64])
     requires { ⌜ Room n (length (now w)) ⌝ }
     ensures { λ _. ⌜ Became n (dampings n scale) (now (w .entry)) (now (w .exit)) ⌝ }
@@ -194,7 +195,7 @@ fn dissipation_run(
     }
 }
 
-// Slot 13, which holds the dissipation.
+// The rate of the field, whose slot holds the dissipation.
 fn calculate_dt_field(n: usize, w: &mut [f64])
     requires { ⌜ Room n (length (now w)) ⌝ }
     ensures { λ _. ⌜ Became n (fieldRates n) (now (w .entry)) (now (w .exit)) ⌝ }
@@ -216,7 +217,7 @@ fn dt_field_at(speed: f64, momentum: f64, dissipation: f64) -> f64
     speed * momentum + dissipation
 }
 
-// Slot 14, which holds the dissipation. Point 0 is set by L'Hopital's rule.
+// The rate of the momentum, whose slot holds the dissipation. Point 0 is set by L'Hopital's rule.
 fn calculate_dt_conj_momentum(n: usize, w: &mut [f64])
     requires { ⌜ Room n (length (now w)) ⌝ }
     ensures { λ _. ⌜ Became n (momentumRates n) (now (w .entry)) (now (w .exit)) ⌝ }
@@ -237,7 +238,7 @@ fn calculate_dt_conj_momentum_from_1(n: usize, w: &mut [f64])
     let radial_factor = slots::RADIAL_FACTOR * n;
     let lapse = slots::LAPSE * n;
     let char_speed = slots::CHAR_SPEED * n;
-    let first = slots::GRADIENT * n;
+    let gradient = slots::GRADIENT * n;
     let second = slots::SCRATCH * n;
     let to = slots::DT_MOMENTUM * n;
     let points = slots::POINTS * n;
@@ -247,7 +248,7 @@ fn calculate_dt_conj_momentum_from_1(n: usize, w: &mut [f64])
             w[char_speed + i],
             w[second + i],
             w[radial_factor + i],
-            w[first + i],
+            w[gradient + i],
             w[points + i],
             w[lapse + i],
             w[to + i],
@@ -266,17 +267,17 @@ fn dt_conj_momentum_at(
     speed: f64,
     second: f64,
     factor: f64,
-    first: f64,
+    gradient: f64,
     r: f64,
     lapse: f64,
     dissipation: f64,
 ) -> f64
-    ensures { λ v. ⌜ v ≡ add binary64 (momentumRateAt speed second factor first r lapse) dissipation ⌝ }
+    ensures { λ v. ⌜ v ≡ add binary64 (momentumRateAt speed second factor gradient r lapse) dissipation ⌝ }
 {
-    speed * second + (factor + 1.0) * first / (r * lapse) + dissipation
+    speed * second + (factor + 1.0) * gradient / (r * lapse) + dissipation
 }
 
-// Slot 15.
+// The rate of the alternate mass.
 fn calculate_dt_alternate_mass(n: usize, w: &mut [f64])
     requires { ⌜ Room n (length (now w)) ⌝ }
     ensures { λ _. ⌜ Became n (massRates n) (now (w .entry)) (now (w .exit)) ⌝ }
@@ -307,7 +308,7 @@ fn dt_alternate_mass_at(r: f64, factor: f64, lapse: f64, gradient: f64, momentum
     (r * r) * (factor * factor) / lapse * gradient * momentum
 }
 
-// Slots 0 and 1: a left Neumann value for regularity at the origin, and 0 at the last point, which reflects.
+// Field and momentum: a left Neumann value for regularity at the origin, and 0 at the last point, which reflects.
 pub(crate) fn apply_bcs(n: usize, w: &mut [f64])
     requires { ⌜ Room n (length (now w)) ⌝ }
     ensures { λ _. ⌜ Became n bounds (now (w .entry)) (now (w .exit)) ⌝ }

@@ -12,7 +12,7 @@ ghost use Rattle.physics.specs.Rk4.{rk4Of};
 ghost use Rattle.physics.specs.SlotNumbers.{scratchSlot};
 ghost use Rattle.physics.specs.Slots.{slots, Became};
 ghost use Rattle.physics.specs.Passes.{Room, Target, grids};
-ghost use Rattle.physics.specs.StepPasses.{States, ReadyStep, loadsVariables, loadsConstraints, begins, doubles, firsts, moves, forms, stages, doubledStages, ends, lasts, steps};
+ghost use Rattle.physics.specs.StepPasses.{States, ReadyStep, loadsVariables, loadsConstraints, begins, doubles, firstStages, moves, forms, stages, doubledStages, ends, lasts, steps};
 ghost use Rattle.physics.specs.Stepped.{steppedNumber, steppedTime, timeAfter, roomToStep};
 ghost use Rattle.physics.specs.State.{stateIn};
 ghost use Rattle.physics.specs.WorkAfter.{WorkAfter};
@@ -71,7 +71,7 @@ fn checked_room(level: u32, state: usize, work: usize) -> Answer
     )
 }
 
-// Slots 0 to 7: the state that is delta after the one in state memory.
+// To the first slots: the state that is delta after the one in state memory.
 fn advance_state(level: u32, n: usize, delta: f64, state: &[f64], w: &mut [f64])
     requires { ⌜ (n ≡ pointsOf level) × States n (length (now state)) (length (now w)) ⌝ }
     ensures { λ _. ⌜ Became n (λ S. steps level n delta (slots n (now (state .entry))) (grids level n S)) (now (w .entry)) (now (w .exit)) ⌝ }
@@ -94,7 +94,7 @@ fn take_stages(level: u32, n: usize, delta: f64, state: &[f64], w: &mut [f64])
 // The rates at the state, with the constraints that it stores, and the sums that begin with them.
 fn first_stage(level: u32, n: usize, state: &[f64], w: &mut [f64])
     requires { ⌜ ReadyStep level n (length (now state)) (now w) ⌝ }
-    ensures { λ _. ⌜ Became n (firsts level (slots n (now (state .entry)))) (now (w .entry)) (now (w .exit)) ⌝ }
+    ensures { λ _. ⌜ Became n (firstStages level (slots n (now (state .entry)))) (now (w .entry)) (now (w .exit)) ⌝ }
 {
     load_variables(n, state, w);
     load_constraints(n, state, w);
@@ -103,7 +103,7 @@ fn first_stage(level: u32, n: usize, state: &[f64], w: &mut [f64])
     begin_sums(n, w);
 }
 
-// Slots 0 and 1: the field and the momentum of the state.
+// The field and the momentum of the state.
 fn load_variables(n: usize, state: &[f64], w: &mut [f64])
     requires { ⌜ States n (length (now state)) (length (now w)) ⌝ }
     ensures { λ _. ⌜ Became n (loadsVariables (slots n (now (state .entry)))) (now (w .entry)) (now (w .exit)) ⌝ }
@@ -113,7 +113,7 @@ fn load_variables(n: usize, state: &[f64], w: &mut [f64])
     copy_vector(&state[variables..end], variables, w);
 }
 
-// Slots 5 to 7: the radial factor, the lapse and the char speed of the state.
+// The radial factor, the lapse and the char speed of the state.
 fn load_constraints(n: usize, state: &[f64], w: &mut [f64])
     requires { ⌜ States n (length (now state)) (length (now w)) ⌝ }
     ensures { λ _. ⌜ Became n (loadsConstraints (slots n (now (state .entry)))) (now (w .entry)) (now (w .exit)) ⌝ }
@@ -123,7 +123,7 @@ fn load_constraints(n: usize, state: &[f64], w: &mut [f64])
     copy_vector(&state[constraints..end], constraints, w);
 }
 
-// Slots 16 to 18: the rates in slots 13 to 15.
+// The sums: the rates, all three.
 fn begin_sums(n: usize, w: &mut [f64])
     requires { ⌜ Room n (length (now w)) ⌝ }
     ensures { λ _. ⌜ Became n begins (now (w .entry)) (now (w .exit)) ⌝ }
@@ -133,7 +133,7 @@ fn begin_sums(n: usize, w: &mut [f64])
     copy_within(rates, sums, 3 * n, w);
 }
 
-// Slots 16 to 18: twice the rates added.
+// The sums: twice the rates added.
 fn add_doubled(n: usize, w: &mut [f64])
     requires { ⌜ Room n (length (now w)) ⌝ }
     ensures { λ _. ⌜ Became n (doubles n) (now (w .entry)) (now (w .exit)) ⌝ }
@@ -170,7 +170,7 @@ fn form_stage(level: u32, n: usize, c: f64, state: &[f64], w: &mut [f64])
     compute_constraints(level, n, w);
 }
 
-// Slots 0 and 1: field and momentum of the state, moved c along the rates.
+// Field and momentum of the state, moved c along the rates.
 fn move_variables(n: usize, c: f64, state: &[f64], w: &mut [f64])
     requires { ⌜ States n (length (now state)) (length (now w)) ⌝ }
     ensures { λ _. ⌜ Became n (moves n c (slots n (now (state .entry)))) (now (w .entry)) (now (w .exit)) ⌝ }
@@ -181,7 +181,7 @@ fn move_variables(n: usize, c: f64, state: &[f64], w: &mut [f64])
     advance(&state[variables..end], c, rates, variables, 2 * n, w);
 }
 
-// Slots 0 to 7: the state that is c along the sums, with the last rates added to them.
+// To the first slots: the state that is c along the sums, with the last rates added to them.
 fn next_state(level: u32, n: usize, c: f64, state: &[f64], w: &mut [f64])
     requires { ⌜ ReadyStep level n (length (now state)) (now w) ⌝ }
     ensures { λ _. ⌜ Became n (lasts level n c (slots n (now (state .entry)))) (now (w .entry)) (now (w .exit)) ⌝ }
@@ -223,7 +223,7 @@ fn eighths_over(h: f64, v: &[f64], i: usize) -> f64
     3.0 * h / 8.0 * (v[i - 3] + 3.0 * v[i - 2] + 3.0 * v[i - 1] + v[i])
 }
 
-// The running integral of slot 9, to the numbers from to on.
+// The running integral of the scratch slot, to the numbers from to on.
 pub(crate) fn integrate(h: f64, n: usize, to: usize, w: &mut [f64])
     requires { ⌜ Target n (length (now w)) to ⌝ }
     ensures { λ _. ⌜ now (w .exit) ≡ put to (integralOf h (slots n (now (w .entry)) scratchSlot)) (now (w .entry)) ⌝ }
@@ -231,11 +231,11 @@ pub(crate) fn integrate(h: f64, n: usize, to: usize, w: &mut [f64])
     let from = slots::SCRATCH * n;
     let end = slots::INTEGRAL * n;
     let v = &w[from..end];
-    let second = quadratic_over(h, v);
-    let third = simpson_over(h, v, 2);
+    let entry1 = quadratic_over(h, v);
+    let entry2 = simpson_over(h, v, 2);
     w[to] = 0.0;
-    w[to + 1] = second;
-    w[to + 2] = third;
+    w[to + 1] = entry1;
+    w[to + 2] = entry2;
     integrate_from_3(h, n, to, w);
 }
 

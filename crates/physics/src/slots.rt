@@ -106,23 +106,23 @@ pub(crate) fn advance(vector: &[f64], c: f64, from: usize, to: usize, n: usize, 
     }
 }
 
-// The vector plus c times the sum of the n numbers from first on and from second on, to those from to on.
+// The vector plus c times the sum of the n numbers from sums on and from rates on, to those from to on.
 pub(crate) fn advance_by_sum(
     vector: &[f64],
     c: f64,
-    first: usize,
-    second: usize,
+    sums: usize,
+    rates: usize,
     to: usize,
     n: usize,
     w: &mut [f64],
 )
-    requires { ⌜ (length (now vector) ≡ n) × TwoInside (length (now w)) first second to n ⌝ }
-    ensures { λ _. ⌜ now (w .exit) ≡ put to (advancedBySum n c (now (vector .entry)) (part first n (now (w .entry))) (part second n (now (w .entry)))) (now (w .entry)) ⌝ }
+    requires { ⌜ (length (now vector) ≡ n) × TwoInside (length (now w)) sums rates to n ⌝ }
+    ensures { λ _. ⌜ now (w .exit) ≡ put to (advancedBySum n c (now (vector .entry)) (part sums n (now (w .entry))) (part rates n (now (w .entry)))) (now (w .entry)) ⌝ }
 {
     let len = w.len();
     let mut i = 0;
     while i < n {
-        w[to + i] = vector[i] + c * (w[first + i] + w[second + i]);
+        w[to + i] = vector[i] + c * (w[sums + i] + w[rates + i]);
         i += 1;
     }
 }
@@ -159,7 +159,7 @@ pub(crate) fn store_ends(
     w[to + 1] = left1;
 }
 
-// Slots 19 and 20: the points and the radial correction.
+// The points and the radial correction, to their slots.
 pub(crate) fn fill_grid(level: u32, n: usize, w: &mut [f64])
     requires { ⌜ Room n (length (now w)) ⌝ }
     ensures { λ _. ⌜ Became n (grids level n) (now (w .entry)) (now (w .exit)) ⌝ }

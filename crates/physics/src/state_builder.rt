@@ -53,7 +53,7 @@ fn checked_work(level: u32, work: usize) -> Answer
     checked(level, slots::WORK * n <= work)
 }
 
-// Slots 0 to 7: the initial state.
+// The initial state, to the first slots.
 fn build_state(level: u32, n: usize, amplitude: f64, w: &mut [f64])
     requires { ⌜ (n ≡ pointsOf level) × Room n (length (now w)) ⌝ }
     ensures { λ _. ⌜ Became n (λ S. initials level n amplitude (grids level n S)) (now (w .entry)) (now (w .exit)) ⌝ }
@@ -66,7 +66,7 @@ fn build_state(level: u32, n: usize, amplitude: f64, w: &mut [f64])
     copy_within(mass, alternate_mass, n, w);
 }
 
-// Slots 0 and 1: a field of zeros, and the wave profile.
+// A field of zeros, and the wave profile as momentum.
 fn initial_variables(n: usize, amplitude: f64, w: &mut [f64])
     requires { ⌜ Room n (length (now w)) ⌝ }
     ensures { λ _. ⌜ Became n (variables n amplitude) (now (w .entry)) (now (w .exit)) ⌝ }
@@ -78,7 +78,7 @@ fn initial_variables(n: usize, amplitude: f64, w: &mut [f64])
     scale_profile(n, amplitude, w);
 }
 
-// Slot 0: zeros. Slot 1: the exponents of the wave profile.
+// A field of zeros; where the momentum goes, the exponents of the wave profile.
 fn initial_exponents(n: usize, w: &mut [f64])
     requires { ⌜ Room n (length (now w)) ⌝ }
     ensures { λ _. ⌜ Became n (exponents n) (now (w .entry)) (now (w .exit)) ⌝ }
@@ -102,7 +102,7 @@ fn exponent_at(r: f64) -> f64
     -INITIAL_WAVE_STEEPNESS * square(tan(PI / 2.0 * r))
 }
 
-// Slot 1 times the amplitude.
+// The momentum times the amplitude.
 fn scale_profile(n: usize, amplitude: f64, w: &mut [f64])
     requires { ⌜ Room n (length (now w)) ⌝ }
     ensures { λ _. ⌜ Became n (scales amplitude) (now (w .entry)) (now (w .exit)) ⌝ }

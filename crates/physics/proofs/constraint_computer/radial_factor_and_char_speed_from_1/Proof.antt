@@ -14,12 +14,12 @@ use Rattle.physics.proofs.constraint_computer.radial_factor_and_char_sp
 
 -- both vectors stand before i
 abbrev Inv-loop : tie.InvT-loop
-Inv-loop n first w₀ len radial lapse speed integral points i₀ w i =
+Inv-loop n integral₀ w₀ len radial lapse speed integral points i₀ w i =
     (1 ≤ i) × (i ≤ n) × (length w ≡ len)
-    × Grown2 radial speed i₀ i (λ E. radialVal (at (slots n E 19)) (slots n E 6) (slots n E 10) first) (λ E. speedVal (at (slots n E 19)) (slots n E 6) (slots n E 10) first) w₀ w
+    × Grown2 radial speed i₀ i (λ E. radialVal (at (slots n E 19)) (slots n E 6) (slots n E 10) integral₀) (λ E. speedVal (at (slots n E 19)) (slots n E 6) (slots n E 10) integral₀) w₀ w
 
 abbrev μ-loop : tie.MeasureT-loop
-μ-loop n first w₀ len radial lapse speed integral points i₀ w i = n - i
+μ-loop n integral₀ w₀ len radial lapse speed integral points i₀ w i = n - i
 
 loop-again : tie.Need-loop-again Inv-loop μ-loop
 loop-again c =

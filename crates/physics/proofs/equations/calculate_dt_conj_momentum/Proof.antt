@@ -6,7 +6,7 @@ use lib.ListN.{length-set}
 use lib.Ieee.{nan}
 use Rattle.vectors.specs.Memory.{tab}
 use Rattle.vectors.specs.MemoryLaws.{filled-none, filled-put, step, length-tab}
-use Rattle.physics.specs.Slots.{slots, slot-first, wrote}
+use Rattle.physics.specs.Slots.{slots, slot-start, wrote}
 use Rattle.physics.specs.Passes.{momentumRateIn}
 use borrow.Author.Needs.{needs}
 use Rattle.physics.proofs.equations.calculate_dt_conj_momentum.Statement.{statement}
@@ -23,7 +23,7 @@ returns c =
     let pre = s .pre in
     let n = s .args .n in
     let w = s .args .w .now in
-    let first = rw (slot-first n 9 w (omega arith), slot-first n 6 w (omega arith), slot-first n 14 w (omega arith)) at (origin .dt-conj-momentum-at-origin .ensures) in
+    let first = rw (slot-start n 9 w (omega arith), slot-start n 6 w (omega arith), slot-start n 14 w (omega arith)) at (origin .dt-conj-momentum-at-origin .ensures) in
     wrote n 14 (λ S. tab n (momentumRateIn S)) w _ (length-tab n _) (omega arith)
     (filled-put nan (rest .calculate-dt-conj-momentum-from-1 .ensures .1 .grow w (step (filled-none _ (momentumRateIn (slots n w)) w) (sym (add-zero _)) first)) (omega arith))
 

@@ -13,10 +13,10 @@ use Rattle.physics.proofs.equations.calculate_dt_conj_momentum_from_1.T
 
 -- the rates stand before i, the dissipation from i on
 abbrev Inv-loop : tie.InvT-loop
-Inv-loop n w₀ len radial lapse speed first second to points i₀ w i = (1 ≤ i) × (i ≤ n) × (length w ≡ len) × Grown to i₀ i (λ E. momentumRateIn (slots n E)) w₀ w
+Inv-loop n w₀ len radial lapse speed gradient second to points i₀ w i = (1 ≤ i) × (i ≤ n) × (length w ≡ len) × Grown to i₀ i (λ E. momentumRateIn (slots n E)) w₀ w
 
 abbrev μ-loop : tie.MeasureT-loop
-μ-loop n w₀ len radial lapse speed first second to points i₀ w i = n - i
+μ-loop n w₀ len radial lapse speed gradient second to points i₀ w i = n - i
 
 loop-again : tie.Need-loop-again Inv-loop μ-loop
 loop-again c =

@@ -14,11 +14,11 @@ use Rattle.physics.proofs.slots.advance_by_sum.Tie as tie
 
 -- the advanced vector stands before i
 abbrev Inv-loop : tie.InvT-loop
-Inv-loop vector c first second to n w₀ len i₀ w i =
-    (i ≤ n) × (length w ≡ len) × Grown to i₀ i (λ E j. add binary64 (at vector j) (mul binary64 c (add binary64 (at (part first n E) j) (at (part second n E) j)))) w₀ w
+Inv-loop vector c sums rates to n w₀ len i₀ w i =
+    (i ≤ n) × (length w ≡ len) × Grown to i₀ i (λ E j. add binary64 (at vector j) (mul binary64 c (add binary64 (at (part sums n E) j) (at (part rates n E) j)))) w₀ w
 
 abbrev μ-loop : tie.MeasureT-loop
-μ-loop vector c first second to n w₀ len i₀ w i = n - i
+μ-loop vector c sums rates to n w₀ len i₀ w i = n - i
 
 loop-again : tie.Need-loop-again Inv-loop μ-loop
 loop-again c =
@@ -30,7 +30,7 @@ loop-again c =
       omega arith,
       simp length-set (omega arith),
       grown-step (turn .loop .inv .2) refl (λ E f.
-          rw (filled-at n (a .first) n i nan f (omega arith) (start .pre .1 .far) (omega arith), filled-at n (a .second) n i nan f (omega arith) (start .pre .1 .far-other) (omega arith))),
+          rw (filled-at n (a .sums) n i nan f (omega arith) (start .pre .1 .far) (omega arith), filled-at n (a .rates) n i nan f (omega arith) (start .pre .1 .far-other) (omega arith))),
     )
 
 returns : tie.Need-returns Inv-loop μ-loop

@@ -96,7 +96,9 @@ abbrev pub speedVal : (ℕ → Float) → List Float → List Float → Float �
 speedVal r lapse integral integral₀ i = div binary64 (radialVal r lapse integral integral₀ i) (at lapse i)
 
 abbrev pub radials : ℕ → Slots → Slots
-radials n S = upd charSpeedSlot (tab n (speedVal (at (S pointsSlot)) (S lapseSlot) (S integralSlot) (at (S integralSlot) 0))) (upd radialFactorSlot (tab n (radialVal (at (S pointsSlot)) (S lapseSlot) (S integralSlot) (at (S integralSlot) 0))) S)
+radials n S =
+    upd charSpeedSlot (tab n (speedVal (at (S pointsSlot)) (S lapseSlot) (S integralSlot) (at (S integralSlot) 0)))
+    (upd radialFactorSlot (tab n (radialVal (at (S pointsSlot)) (S lapseSlot) (S integralSlot) (at (S integralSlot) 0))) S)
 
 abbrev pub radialFactors : ℕ → Float → Slots → Slots
 radialFactors n h S = radials n (integrals h S)
@@ -108,7 +110,9 @@ abbrev pub massVal : (ℕ → Float) → List Float → ℕ → Float
 massVal r radialFactor i = massAt (r i) (at radialFactor i)
 
 abbrev pub energies : ℕ → Slots → Slots
-energies n S = upd massSlot (tab n (massVal (at (S pointsSlot)) (S radialFactorSlot))) (upd energyDensitySlot (tab n (energyVal (at (S pointsSlot)) (S gradientSlot) (S momentumSlot))) S)
+energies n S =
+    upd massSlot (tab n (massVal (at (S pointsSlot)) (S radialFactorSlot)))
+    (upd energyDensitySlot (tab n (energyVal (at (S pointsSlot)) (S gradientSlot) (S momentumSlot))) S)
 
 -- ---- the constraints, by their definitions
 
@@ -129,7 +133,8 @@ constraints level S =
 
 abbrev pub fullConstraints : ℕ → Slots → Slots
 fullConstraints level S =
-    upd massSlot (massOf level (radialFactorIn level S)) (upd energyDensitySlot (energyDensityOf level (radialGradientOf level (S fieldSlot)) (S momentumSlot)) (constraints level S))
+    upd massSlot (massOf level (radialFactorIn level S))
+    (upd energyDensitySlot (energyDensityOf level (radialGradientOf level (S fieldSlot)) (S momentumSlot)) (constraints level S))
 
 -- ---- the equations of motion, pass by pass
 
@@ -171,7 +176,9 @@ massRates n S = upd dtMassSlot (tab n (massRateIn S)) S
 
 abbrev pub rates : ℕ → Float → Slots → Slots
 rates n scale S =
-    massRates n (upd dtMomentumSlot (tab n (momentumRateVal (at (S pointsSlot)) scale (S charSpeedSlot) (S scratchSlot) (S radialFactorSlot) (S gradientSlot) (S lapseSlot) (S halfMomentumSlot))) (upd dtFieldSlot (tab n (fieldRateVal scale (S charSpeedSlot) (S momentumSlot) (S halfFieldSlot))) S))
+    massRates n
+    (upd dtMomentumSlot (tab n (momentumRateVal (at (S pointsSlot)) scale (S charSpeedSlot) (S scratchSlot) (S radialFactorSlot) (S gradientSlot) (S lapseSlot) (S halfMomentumSlot)))
+    (upd dtFieldSlot (tab n (fieldRateVal scale (S charSpeedSlot) (S momentumSlot) (S halfFieldSlot))) S))
 
 -- the same in passes: the dissipation, to which the rates without it are added
 abbrev pub dampings : ℕ → Float → Slots → Slots
@@ -183,7 +190,8 @@ fieldRateIn S i = add binary64 (fieldRateAt (at (S charSpeedSlot) i) (at (S mome
 abbrev pub momentumRateIn : Slots → ℕ → Float
 momentumRateIn S i =
     add binary64
-    (cond (eqb i 0) (originRateAt (at (S scratchSlot) i) (at (S lapseSlot) i)) (momentumRateAt (at (S charSpeedSlot) i) (at (S scratchSlot) i) (at (S radialFactorSlot) i) (at (S gradientSlot) i) (at (S pointsSlot) i) (at (S lapseSlot) i)))
+    (cond (eqb i 0) (originRateAt (at (S scratchSlot) i) (at (S lapseSlot) i))
+    (momentumRateAt (at (S charSpeedSlot) i) (at (S scratchSlot) i) (at (S radialFactorSlot) i) (at (S gradientSlot) i) (at (S pointsSlot) i) (at (S lapseSlot) i)))
     (at (S dtMomentumSlot) i)
 
 abbrev pub fieldRates : ℕ → Slots → Slots
@@ -218,7 +226,8 @@ pub record ReadyEquations (level n : ℕ) (w : List Float) : Type 0 where
   pub gradient : slots n w gradientSlot ≡ radialGradientOf level (slots n w fieldSlot)
 
 abbrev pub constraintsIn : Slots → Constraints
-constraintsIn S = record { energyDensity = S energyDensitySlot; mass = S massSlot; radialFactor = S radialFactorSlot; lapse = S lapseSlot; charSpeed = S charSpeedSlot }
+constraintsIn S =
+    record { energyDensity = S energyDensitySlot; mass = S massSlot; radialFactor = S radialFactorSlot; lapse = S lapseSlot; charSpeed = S charSpeedSlot }
 
 abbrev pub derivatives : ℕ → Slots → Slots
 derivatives level S =

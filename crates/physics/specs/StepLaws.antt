@@ -20,7 +20,7 @@ use Rattle.physics.specs.Passes.{Room, Ready, ReadyEquations, gradients,
 use Rattle.physics.specs.PassLaws.{renamed, ready-after}
 use Rattle.physics.specs.SlotNumbers.{fieldSlot, momentumSlot, alternateMassSlot, energyDensitySlot, massSlot, radialFactorSlot, lapseSlot, charSpeedSlot, gradientSlot, dtFieldSlot, dtMomentumSlot, dtMassSlot, fieldSumSlot, momentumSumSlot, massSumSlot, pointsSlot, correctionSlot}
 use Rattle.physics.specs.Slots.{Slots, slots, upd, Became}
-use Rattle.physics.specs.StepPasses.{ReadyStep, advancedBySum, firstStages, stages, doubledStages, lasts, steps}
+use Rattle.physics.specs.StepPasses.{ReadyStep, advancedBySum, doubles, firstStages, stages, doubledStages, lasts, steps}
 use Rattle.physics.specs.Vector.{at, advancedOf}
 use Rattle.physics.specs.VectorLaws.{tab-same, tab-at}
 
@@ -70,6 +70,15 @@ record Holds (u a : Equations) (S : Slots) : Type 0 where
   rates : ratesIn S ≡ u
   sums : sumsIn S ≡ a
 
+doubles-same : (n : ℕ) (S : Slots) → Holds (ratesIn S) (plusTwice n (sumsIn S) (ratesIn S)) (doubles n S)
+unfolding plusTwice
+doubles-same n S = record { rates = refl; sums = refl }
+
+doubles-hold : (n : ℕ) {u a : Equations} {S : Slots} → Holds u a S → Holds u (plusTwice n a u) (doubles n S)
+doubles-hold n {u} {a} {S} H =
+    let e : plusTwice n (sumsIn S) (ratesIn S) ≡ plusTwice n a u = cc (H .rates, H .sums) in
+    record { rates = doubles-same n S .rates ∙ H .rates; sums = doubles-same n S .sums ∙ e }
+
 -- the next state of the last rates u and the sums a before them
 unfoldable endOf : ℕ → Float → Float → State → Equations → Equations → State
 endOf level time c s a u =
@@ -88,10 +97,6 @@ module _ (level : ℕ) (time : Float) (T : Slots) where
   unfolding stageOf equationsOf constraintsOf
   stage-same c S = record { rates = refl; sums = refl }
 
-  doubled-same : (c : Float) (S : Slots) → let u = stageOf level (stateOfSlots time T) c (ratesIn S) in Holds u (plusTwice (pointsOf level) (sumsIn S) u) (doubledStages level (pointsOf level) c T S)
-  unfolding stageOf equationsOf constraintsOf plusTwice
-  doubled-same c S = record { rates = refl; sums = refl }
-
   last-same : (c next : Float) (S : Slots) → stateOfSlots next (lasts level (pointsOf level) c T S) ≡ endOf level next c (stateOfSlots time T) (sumsIn S) (ratesIn S)
   unfolding endOf stateOf constraintsOf
   last-same c next S = refl
@@ -101,10 +106,7 @@ module _ (level : ℕ) (time : Float) (T : Slots) where
 
   doubled-holds : (c : Float) {u a : Equations} {S : Slots} → Holds u a S
       → let v = stageOf level (stateOfSlots time T) c u in Holds v (plusTwice (pointsOf level) a v) (doubledStages level (pointsOf level) c T S)
-  doubled-holds c {u} {a} {S} H =
-      let v = stageOf level (stateOfSlots time T) c in
-      let e : plusTwice (pointsOf level) (sumsIn S) (v (ratesIn S)) ≡ plusTwice (pointsOf level) a (v u) = cc (H .rates, H .sums) in
-      record { rates = doubled-same c S .rates ∙ ap v (H .rates); sums = doubled-same c S .sums ∙ e }
+  doubled-holds c H = doubles-hold (pointsOf level) (stage-holds c H)
 
   last-holds : (c next : Float) {u a : Equations} {S : Slots} → Holds u a S → stateOfSlots next (lasts level (pointsOf level) c T S) ≡ endOf level next c (stateOfSlots time T) a u
   last-holds c next {u} {a} {S} H =

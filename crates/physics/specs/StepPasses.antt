@@ -58,7 +58,9 @@ begins S = upd massSumSlot (S dtMassSlot) (upd momentumSumSlot (S dtMomentumSlot
 -- twice the rates added to the sums
 abbrev pub doubles : ℕ → Slots → Slots
 doubles n S =
-    upd massSumSlot (advancedOf n (whole 2) (S massSumSlot) (S dtMassSlot)) (upd momentumSumSlot (advancedOf n (whole 2) (S momentumSumSlot) (S dtMomentumSlot)) (upd fieldSumSlot (advancedOf n (whole 2) (S fieldSumSlot) (S dtFieldSlot)) S))
+    upd massSumSlot (advancedOf n (whole 2) (S massSumSlot) (S dtMassSlot))
+    (upd momentumSumSlot (advancedOf n (whole 2) (S momentumSumSlot) (S dtMomentumSlot))
+    (upd fieldSumSlot (advancedOf n (whole 2) (S fieldSumSlot) (S dtFieldSlot)) S))
 
 abbrev pub firstStages : ℕ → Slots → Slots → Slots
 firstStages level T S = let L = loads T S in begins (derivatives level (upd gradientSlot (radialGradientOf level (L fieldSlot)) L))
@@ -79,7 +81,9 @@ doubledStages level n c T S = doubles n (stages level n c T S)
 -- the field variables of the next state
 abbrev pub ends : ℕ → Float → Slots → Slots → Slots
 ends n c T S =
-    upd alternateMassSlot (advancedBySum n c (T alternateMassSlot) (S massSumSlot) (S dtMassSlot)) (upd momentumSlot (advancedBySum n c (T momentumSlot) (S momentumSumSlot) (S dtMomentumSlot)) (upd fieldSlot (advancedBySum n c (T fieldSlot) (S fieldSumSlot) (S dtFieldSlot)) S))
+    upd alternateMassSlot (advancedBySum n c (T alternateMassSlot) (S massSumSlot) (S dtMassSlot))
+    (upd momentumSlot (advancedBySum n c (T momentumSlot) (S momentumSumSlot) (S dtMomentumSlot))
+    (upd fieldSlot (advancedBySum n c (T fieldSlot) (S fieldSumSlot) (S dtFieldSlot)) S))
 
 abbrev pub lasts : ℕ → ℕ → Float → Slots → Slots → Slots
 lasts level n c T S = fullConstraints level (bounds (ends n c T S))
@@ -88,6 +92,5 @@ abbrev pub steps : ℕ → ℕ → Float → Slots → Slots → Slots
 steps level n delta T S =
     lasts level n (div binary64 delta (whole 6)) T
     (stages level n delta T
-    (doubledStages level n (mul binary64 half delta) T
-    (doubledStages level n (mul binary64 half delta) T
+    (doubledStages level n (mul binary64 half delta) T (doubledStages level n (mul binary64 half delta) T
     (firstStages level T S))))

@@ -85,9 +85,9 @@ fn take_stages(level: u32, n: usize, delta: f64, state: &[f64], w: &mut [f64])
     ensures { λ _. ⌜ Became n (steps level n delta (slots n (now (state .entry)))) (now (w .entry)) (now (w .exit)) ⌝ }
 {
     first_stage(level, n, state, w);
-    doubled_stage(level, n, 0.5 * delta, state, w);
-    doubled_stage(level, n, 0.5 * delta, state, w);
-    stage(level, n, delta, state, w);
+    doubled_stage(level, n, 0.5 * delta, state, w); // from the rates of the first
+    doubled_stage(level, n, 0.5 * delta, state, w); // from those of the second
+    stage(level, n, delta, state, w); // from those of the third
     next_state(level, n, delta / 6.0, state, w);
 }
 

@@ -30,7 +30,7 @@ module _ (h : Float) (v : List Float) where
   unfolding integralAt
   integral-next k = refl
 
-  integral-by : (i : ℕ) → 3 ≤ i
+  pub integral-by : (i : ℕ) → 3 ≤ i
       → cond (eqb (i % 2) 0) (add binary64 (integralAt h v (i - 2)) (simpsonOver h v i)) (add binary64 (integralAt h v (i - 3)) (eighthsOver h v i)) ≡ integralAt h v i
   integral-by i l =
       let e : suc (suc (suc (i - 3))) ≡ i = omega arith in

@@ -1,14 +1,15 @@
 -- Every entry of `integralAt` is a rule of Quadrature, of which `quadrature-exact` speaks, added to the entry where the rule begins.
-use mathlib.Core.Path.{_≡_, refl}
+use mathlib.Core.Path.{_≡_, refl, sym, ap, _∙_}
 use mathlib.Core.Bool.{Bool, true, false, cond}
 use mathlib.Core.List.{List}
-use Prim.Native.Nat.{ℕ, zero, suc, _-_, _%_, _≤_}
+use Prim.Native.Nat.{ℕ, suc, _-_, _%_, _≤_}
 use native.Mathlib.Omega.{arith}
 use lib.Dec.{eqb}
 use lib.Ieee.{Float, binary64, add, sub, mul, div}
 use Rattle.vectors.specs.Constants.{whole}
 use Rattle.vectors.specs.Stencil.{plus, total}
-use Rattle.physics.specs.Integral.{integralAt}
+use Rattle.physics.specs.Integral.{simpsonOver, eighthsOver, integralAt}
+use Rattle.physics.specs.IntegralLaws.{integral-by}
 use Rattle.physics.specs.Quadrature.{Quadrature, entry1Weights, simpsonWeights, eighthsWeights, entry1Rule, simpsonRule, eighthsRule}
 use Rattle.physics.specs.Vector.{at}
 use Rattle.physics.specs.WeighedSum.{multiple, weighedFrom, weighedSum}
@@ -37,22 +38,28 @@ module _ (h : Float) (v : List Float) where
   unfolding integralAt ruleFrom weighedSum weighedFrom total plus simpsonRule simpsonWeights
   entry-2 = refl
 
-  more : (k : ℕ) (even : Bool) → let i = suc (suc (suc k)) in eqb (i % 2) 0 ≡ even
-      → let from = i - ruleAt i .span in integralAt h v i ≡ add binary64 (integralAt h v from) (ruleFrom (ruleAt i) h v from)
-  unfolding integralAt ruleFrom weighedSum weighedFrom total plus simpsonRule eighthsRule simpsonWeights eighthsWeights
-  more k true e =
-      let p : suc (suc (suc k)) - 2 ≡ suc k = omega arith in
-      let q : suc (suc (suc k)) - 1 ≡ suc (suc k) = omega arith in
-      rw (e, p, q) refl
-  more k false e =
-      let p : suc (suc (suc k)) - 3 ≡ k = omega arith in
-      let q : suc (suc (suc k)) - 2 ≡ suc k = omega arith in
-      let r : suc (suc (suc k)) - 1 ≡ suc (suc k) = omega arith in
-      rw (e, p, q, r) refl
+  simpson-from : (i : ℕ) → 2 ≤ i → simpsonOver h v i ≡ ruleFrom simpsonRule h v (i - 2)
+  unfolding ruleFrom weighedSum weighedFrom total plus simpsonRule simpsonWeights
+  simpson-from i l =
+      let p : suc (i - 2) ≡ i - 1 = omega arith in
+      let q : suc (suc (i - 2)) ≡ i = omega arith in
+      rw (q, p)
+
+  eighths-from : (i : ℕ) → 3 ≤ i → eighthsOver h v i ≡ ruleFrom eighthsRule h v (i - 3)
+  unfolding ruleFrom weighedSum weighedFrom total plus eighthsRule eighthsWeights
+  eighths-from i l =
+      let p : suc (i - 3) ≡ i - 2 = omega arith in
+      let q : suc (suc (i - 3)) ≡ i - 1 = omega arith in
+      let r : suc (suc (suc (i - 3))) ≡ i = omega arith in
+      rw (r, q, p)
 
   -- from entry 3 on: the rule that ends there, added to the entry its span before
   pub entry-more : (i : ℕ) → 3 ≤ i → let from = i - ruleAt i .span in integralAt h v i ≡ add binary64 (integralAt h v from) (ruleFrom (ruleAt i) h v from)
-  entry-more zero l = absurd (omega arith)
-  entry-more (suc zero) l = absurd (omega arith)
-  entry-more (suc (suc zero)) l = absurd (omega arith)
-  entry-more (suc (suc (suc k))) l = more k (eqb (suc (suc (suc k)) % 2) 0) refl
+  unfolding simpsonRule eighthsRule
+  entry-more i l = sym (integral-by h v i l) ∙ by (eqb (i % 2) 0)
+    where
+      by : (even : Bool) → let rule = cond even simpsonRule eighthsRule in let from = i - rule .span in
+          cond even (add binary64 (integralAt h v (i - 2)) (simpsonOver h v i)) (add binary64 (integralAt h v (i - 3)) (eighthsOver h v i))
+          ≡ add binary64 (integralAt h v from) (ruleFrom rule h v from)
+      by true = ap (add binary64 (integralAt h v (i - 2))) (simpson-from i (omega arith))
+      by false = ap (add binary64 (integralAt h v (i - 3))) (eighths-from i l)

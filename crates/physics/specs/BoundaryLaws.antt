@@ -6,23 +6,17 @@ use Prim.Native.Nat.{ℕ, _+_, _-_, _≤_, _<_}
 use native.Mathlib.Omega.{arith}
 use borrow.Author.Tests.{eqb-true, eqb-false}
 use lib.Dec.{eqb}
-use lib.ListN.{length, drop, set, length-set}
+use lib.ListN.{length, set, length-set}
 use lib.Seq.{getD-set-same, getD-set-other}
-use lib.Ieee.{Float, nan, binary64, div, ofInt, ofBits}
+use lib.Ieee.{Float, nan, binary64, ofInt, ofBits}
 use Rattle.vectors.specs.Memory.{part, put}
 use Rattle.vectors.specs.MemoryLaws.{by-cases, is-put, length-part, getD-part, length-put, getD-put-below, getD-put-in, getD-put-above}
-use Rattle.vectors.specs.RowSums.{sum4}
-use Rattle.vectors.specs.Stencil.{diffLeft0, productsFrom, plus, total, neumannOf, withLeftNeumann}
-use Rattle.vectors.specs.StencilLaws.{twentyFive}
+use Rattle.vectors.specs.Stencil.{neumannOf, withLeftNeumann}
 use Rattle.physics.specs.Equations.{boundedOf}
 
 pub length-boundedOf : (xs : List Float) → length (boundedOf xs) ≡ length xs
 unfolding boundedOf
 length-boundedOf xs = length-set (withLeftNeumann xs) _ _ ∙ length-set xs 0 _
-
-pub neumann-is : (xs : List Float) (r : Float) → r ≡ sum4 (drop 1 (diffLeft0 .weights)) xs 1 → div binary64 r twentyFive ≡ neumannOf xs
-unfolding neumannOf diffLeft0 productsFrom total plus ofBits ofInt
-neumann-is xs r e = rw e
 
 -- a store into a part
 put-part-same : (m n : ℕ) (w : List Float) → m + n ≤ length w → put m (part m n w) w ≡ w

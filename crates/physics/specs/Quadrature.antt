@@ -1,15 +1,14 @@
 -- The rules of `integrate` (01): "Simpson 1/3 and 3/8, and for entry 1 of `integrate` the quadratic rule 5, 8, -1 over 12".
 -- One list holds the rules, one computed test goes over it, and `quadrature-exact` turns the test into what it says of each rule.
 use mathlib.Core.Path.{_≡_, refl, sym, ap, _∙_}
-use mathlib.Core.Logic.{inl, inr}
-use mathlib.Core.List.{List, [], _∷_, map, List·Memᴰ, List·Memᴰ·not-nil, List·Memᴰ·cases-cons}
+use mathlib.Core.List.{List, [], _∷_, map, List·Memᴰ}
 use Prim.Native.Nat.{ℕ, suc, _+_, _*_, _^_, _≤_}
 use native.Mathlib.Omega.{arith}
 use lib.IntN.{ℤ, pos, _+ℤ_, _*ℤ_, one, pow}
 use lib.ListN.{getD}
 use Rattle.vectors.specs.Constants.{less}
 use Rattle.vectors.specs.Memory.{tabFrom, tab}
-use Rattle.vectors.specs.MemoryLaws.{getD-tab}
+use Rattle.vectors.specs.MemoryLaws.{getD-tab, same-at}
 
 -- At spacing h: h × factor / divisor × (the sum of weight j × f(j × h)), for the integral of f from 0 to span × h.
 pub record Quadrature : Type 0 where
@@ -65,13 +64,6 @@ unfolding upTo tab tabFrom ruleValue integralValue powerSumFrom pow one quadratu
 values-agree = refl
 
 -- ---- what it says
-same-at : {A B : Type 0} (f g : A → B) (list : List A) (x : A) → map f list ≡ map g list → List·Memᴰ x list → f x ≡ g x
-same-at f g [] x e m = absurd (List·Memᴰ·not-nil m)
-same-at f g (y ∷ list) x e m = elim (List·Memᴰ·cases-cons m) [
-  | inl p ↦ cc
-  | inr m' ↦ same-at f g list x (cc) m'
-]
-
 -- every rule of the list is exact on the powers up to its degree
 pub quadrature-exact : (rule : Quadrature) → List·Memᴰ rule quadratures → (q : ℕ) → q ≤ rule .degree → ruleValue rule q ≡ integralValue rule q
 unfolding upTo

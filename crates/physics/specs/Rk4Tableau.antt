@@ -41,7 +41,7 @@ noRates = record { dtField = []; dtConjMomentum = []; dtAlternateMass = [] }
 
 -- The rates of a stage, where us are those of the stages before. A row of zeros: those at the state, with the constraints that it stores. One entry
 -- that is not 0: those as far along the rates of its stage. Classical RK4 has no row with two, and such a row, or an entry for a stage that is
--- not before, has no meaning here.
+-- not before, has no meaning here: it gives no numbers or NaN.
 unfoldable pub stageBy : ℕ → Float → State → List Equations → List Coupling → Equations
 stageBy level delta s us [] = equationsOf level (s .field) (s .conjMomentum) (storedConstraints s)
 stageBy level delta s us (c ∷ []) = stageOf level s (along (c .halfSteps) delta) (getD us (c .stage) noRates)

@@ -75,7 +75,7 @@ correctionSlot = 20
 abbrev pub slotCount : ℕ
 slotCount = 21
 
--- they stand in these many n to these many n of work memory
+-- with n points, the slots are numbers slotsStart × n to slotsEnd × n of work memory
 abbrev pub slotsStart : ℕ
 slotsStart = 8
 

@@ -11,7 +11,7 @@ ghost use Rattle.physics.specs.StepPasses.{TwoInside, advancedBySum};
 use vectors::diff::radial_correction;
 use vectors::grid::point;
 
-// The slots are numbers START * n to END * n of work memory, which has WORK * n.
+// The slots are numbers START * n to END * n of work memory, of which a call asks WORK * n.
 pub(crate) const START: usize = 8;
 
 pub(crate) const END: usize = 29;

@@ -7,6 +7,7 @@ pub mod EndedStays
 pub mod Examples
 pub mod FlatSpace
 pub mod FormReadLaws
+pub mod FullAndRefused
 pub mod LaterCalls
 pub mod LongerMemory
 pub mod NanLaws

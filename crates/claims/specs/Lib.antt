@@ -5,6 +5,7 @@ pub mod CommandKindLaws
 pub mod CommandsLaws
 pub mod EndedStays
 pub mod Examples
+pub mod FitLaws
 pub mod FlatSpace
 pub mod FormReadLaws
 pub mod FullAndRefused
@@ -23,6 +24,8 @@ pub mod RefusalNumbers
 pub mod RefusedExactly
 pub mod RefusedNumber
 pub mod ReportExamples
+pub mod RunFits
+pub mod RunRecovered
 pub mod SettingPlacesLaws
 pub mod Simulate
 pub mod WholeOutput

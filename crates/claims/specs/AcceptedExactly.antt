@@ -75,7 +75,8 @@ accepted-exactly s set budgets = (there, back)
         let none′ = times-perm 6 (g .once-each) ∙ six-none (settingsAt s p) 6 (omega arith) in
         let w = split-same (f .settings) (g .settings) none none′ (sym (f .commands) ∙ g .commands) in
         let perm : List·Permᴰ (settingCommands set) (settingCommands (settingsAt s p)) =
-        List·Permᴰ·trans (Permᴰ·symm (f .once-each)) (subst (λ (l : List Command). List·Permᴰ l (settingCommands (settingsAt s p))) (sym (w .0)) (g .once-each)) in
+        List·Permᴰ·trans (Permᴰ·symm (f .once-each))
+        (subst (λ (l : List Command). List·Permᴰ l (settingCommands (settingsAt s p))) (sym (w .0)) (g .once-each)) in
         record {
           places = p;
           read = d .is ∙ ap (λ (x : Settings). Order x p) (sym (settings-same set (settingsAt s p) perm));

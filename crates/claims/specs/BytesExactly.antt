@@ -124,7 +124,8 @@ commands-spelled (c ∷ cs) n s at h w e =
     let p = whole-at s at c (d .is) k in
     let size = operandSize (byteAt s at) in
     let fuel = d .fuel in
-    let rest = commands-spelled cs (d .m) s (at + 1 + size) (omega arith) (omega (arith, times-tail 9 c cs)) (ap (commandsFrom (d .m) s) (sym (p .after)) ∙ d .then) in
+    let rest = commands-spelled cs (d .m) s (at + 1 + size) (omega arith) (omega (arith, times-tail 9 c cs))
+    (ap (commandsFrom (d .m) s) (sym (p .after)) ∙ d .then) in
     subst (Spells (c ∷ cs)) (sym (split-operand size s at (d .inside)))
     (more (encodes s (at + 1) (byteAt s at) c (p .inside) (p .read) k) rest)
 

@@ -4,14 +4,14 @@ use mathlib.Core.Bool.{true}
 use mathlib.Core.List.{List, [], _∷_}
 use mathlib.Core.Path.{_≡_, refl, sym, ap, _∙_, subst}
 use native.Mathlib.Omega.{arith}
-use lib.Ieee.{Float, binary64, ofBits}
+use lib.Ieee.{binary64, ofBits}
 use lib.ListN.{length, getD, take, drop, length-drop}
 use lib.Seq.{length-take-le, drop-cons}
 use borrow.Author.Tests.{lt-ltb}
 use Rattle.run.specs.Bytes.{byteAt, little, floatAt}
 use Rattle.run.specs.Order.{isKnown, operandSize, switchOf, commandOf}
 use Rattle.run.specs.declared.order.Command.{Command}
-use Rattle.run.specs.declared.order.Command.the-variants.{Amplitude, Level, MaxTime, Interval, DxLevel, Skip, Begin, Advance, End, Wrong}
+use Rattle.run.specs.declared.order.Command.the-variants.{Amplitude, Level, MaxTime, Interval, DxLevel, Advance, Wrong}
 use Rattle.claims.specs.OrderForm.{numberOf, Encodes, is01, is02, is03, is04, is05, is06-no, is06-yes, is07, is08, is09}
 use Rattle.claims.specs.CommandKindLaws.{kind}
 

@@ -3,8 +3,8 @@ use Prim.Native.Nat.{ℕ, zero, suc, _+_, _≤_, _<_}
 use mathlib.Core.Bool.{Bool, true, false, cond}
 use mathlib.Core.List.{List, [], _∷_, _++_}
 use mathlib.Core.List.{List·Permᴰ, List·Permᴰ·nil, List·Permᴰ·cons, List·Permᴰ·swap, List·Permᴰ·trans}
-use mathlib.Core.Logic.{_⊎_, inl, inr}
-use mathlib.Core.Path.{_≡_, refl, ap, ap₂, _∙_}
+use mathlib.Core.Logic.{inl, inr}
+use mathlib.Core.Path.{_≡_, refl, ap₂, _∙_}
 use native.Mathlib.Omega.{arith}
 use lib.Dec.{ltb, eqb}
 use borrow.Author.Tests.{lt-ltb, le-ltb, eq-eqb, ne-eqb}
@@ -67,7 +67,7 @@ times-perm k List·Permᴰ·nil = refl
 times-perm k (List·Permᴰ·cons e d) = ap₂ (λ (c : Command) (t : ℕ). cond (eqb (kind c) k) (suc t) t) e (times-perm k d)
 times-perm k (List·Permᴰ·swap {a} {b} {l = l} e f) =
     go (eqb (kind a) k) (eqb (kind b) k)
-    ∙ ap₂ (λ (c d : Command). cond (eqb (kind c) k) (suc (cond (eqb (kind d) k) (suc (times k l)) (times k l))) (cond (eqb (kind d) k) (suc (times k l)) (times k l))) f e
+    ∙ ap₂ (λ (c d : Command). let rest = cond (eqb (kind d) k) (suc (times k l)) (times k l) in cond (eqb (kind c) k) (suc rest) rest) f e
   where
     go : (x y : Bool) → cond x (suc (cond y (suc (times k l)) (times k l))) (cond y (suc (times k l)) (times k l))
         ≡ cond y (suc (cond x (suc (times k l)) (times k l))) (cond x (suc (times k l)) (times k l))

@@ -1,5 +1,5 @@
 -- The reader accepts what has the form: one command after another, no fault is found.
-use Prim.Native.Nat.{ℕ, zero, suc, _+_, _≤_, _<_}
+use Prim.Native.Nat.{ℕ, suc, _+_, _≤_, _<_}
 use mathlib.Core.Bool.{true, false, cond}
 use mathlib.Core.List.{List, [], _∷_, _++_, map}
 use mathlib.Core.Path.{_≡_, refl, sym, ap, _∙_}
@@ -7,7 +7,7 @@ use native.Mathlib.Omega.{arith}
 use lib.ListN.{length}
 use borrow.Author.Tests.{lt-ltb, le-ltb, lt-leb, ne-eqb}
 use Rattle.run.specs.Bytes.{byteAt}
-use Rattle.run.specs.Order.{operandSize, isCut, commandAt, nextAt, noPlaces, noted, begun, complete}
+use Rattle.run.specs.Order.{operandSize, isCut, nextAt, noPlaces, noted, begun, complete}
 use Rattle.run.specs.Order.{beginFault, unlessBegun, commandFault, settingsAt, unlessFault, ended, orderFrom, readOrder}
 use Rattle.run.specs.OrderLaws.{tells, next-after, command-end}
 use Rattle.run.specs.declared.settings.Settings.{Settings}
@@ -68,7 +68,8 @@ module _ (s : List ℕ) where
         all = later .all;
       }
 
-  settle : (cs rest : List Command) (n at : ℕ) (p : Places) → commandsFrom n s at ≡ cs ++ rest → length s ≤ n + at → Ready p cs → Settled (orderFrom n s at p) rest
+  settle : (cs rest : List Command) (n at : ℕ) (p : Places) → commandsFrom n s at ≡ cs ++ rest
+      → length s ≤ n + at → Ready p cs → Settled (orderFrom n s at p) rest
   unfolding times
   settle [] rest n at p e h r =
       record { n = n; at = at; p = p; same = refl; then = e; enough = h; idle = r .idle; all = λ k l. omega (arith, r .all k l) }
@@ -87,7 +88,8 @@ module _ (s : List ℕ) where
   ended-before : {r q : Read} → r ≡ q → Ended q → Ended r
   ended-before e d = record { p = d .p; is = e ∙ d .is }
 
-  finish : (bs : List ℕ) (n at : ℕ) (p : Places) → commandsFrom n s at ≡ map Advance bs ++ (End ∷ []) → length s ≤ n + at → begun p ≡ true → Ended (orderFrom n s at p)
+  finish : (bs : List ℕ) (n at : ℕ) (p : Places) → commandsFrom n s at ≡ map Advance bs ++ (End ∷ [])
+      → length s ≤ n + at → begun p ≡ true → Ended (orderFrom n s at p)
   unfolding commandFault unlessBegun noted begun kind
   finish [] n at p e h b =
       let d = head-of n s at End [] e in

@@ -1,29 +1,26 @@
 -- Demand 3 is not empty for full and for refused calls either: a list of calls that answers full, refused 14, refused 11, and then an end.
-use Prim.Native.Nat.{ℕ, _+_, _-_, _*_}
-use mathlib.Core.Bool.{Bool, true, false, not, _&&_}
+use Prim.Native.Nat.{ℕ, _+_, _-_}
+use mathlib.Core.Bool.{true, false, not}
 use mathlib.Core.List.{List, [], _∷_}
 use mathlib.Core.Path.{_≡_, refl, sym, _∙_, ap}
-use native.Mathlib.Nat.{zero-mul}
-use native.Mathlib.Omega.{arith}
-use lib.Dec.{ltb}
-use lib.Ieee.{Float, nan, binary64, add, sub, mul, div, round, lt, le}
-use lib.ListN.{length}
+use lib.Ieee.{Float, add, sub, mul, div, round, lt, le}
 use Rattle.vectors.specs.Constants.{bhRadialFactorTracking, courantNumber, eps}
 use Rattle.vectors.specs.Grid.{pointsOf, spacingOf}
 use Rattle.vectors.specs.TotalOrder.{minimumOf}
 use Rattle.run.specs.declared.settings.Settings.{Settings}
 use Rattle.run.specs.declared.settings.Record.{Record}
 use Rattle.run.specs.Clock.{floorOf, baseStepOf, timeToNextOf, isFrameStep}
-use Rattle.run.specs.Model.{frameCount, framesNext}
+use Rattle.run.specs.Model.{framesNext}
 use Rattle.run.specs.Outcome.{broke}
-use Rattle.run.specs.PlainRun.{Machine, hasEnded, plainRun}
+use Rattle.run.specs.PlainRun.{plainRun}
 use Rattle.run.specs.Tally.{Reply, refused, full, ran, Told, appended, noRoom, attempts, told}
 use Rattle.run.specs.Calls.{accepted, Call, Session, advanced, call, calls, replies}
 use Rattle.run.specs.Demand.{isEnd, anyEnd, fed, begun, opened}
 use Rattle.run.specs.OneCall.{sessionAt, one-answer, one-session, told-runs}
 use Rattle.run.specs.DemandProof.{Given, accepted-given, opened-at}
 use Rattle.claims.specs.FlatSpace.{nought, ones, flat}
-use Rattle.claims.specs.NotEmpty.{Ends, unmeasured, blank, memory, work, fresh, once, run-zero, not-ended, sound-unmeasured, first-unmeasured, frame-unmeasured, begun-machine, demand3-not-empty}
+use Rattle.claims.specs.NotEmpty.{Ends, unmeasured, blank, memory, work, fresh, once}
+use Rattle.claims.specs.NotEmpty.{run-zero, not-ended, sound-unmeasured, first-unmeasured, frame-unmeasured, begun-machine, demand3-not-empty}
 
 -- ---- the calls
 -- 01, "Clock": with a NaN interval the first step is a frame step; no room for a frame

@@ -1,7 +1,7 @@
 -- 01, "What the promise has to rule out": "Stepping on the first call and afterwards only raising the count". Such an advance is not the
 -- one that the contract of `advance` promises.
 use Prim.Native.Nat.{ℕ, _+_}
-use mathlib.Core.Bool.{Bool, true, false, cond, _&&_, true≢false}
+use mathlib.Core.Bool.{Bool, false, cond, _&&_, true≢false}
 use mathlib.Core.List.{List, [], _∷_}
 use mathlib.Core.Path.{_≡_, refl, sym, _∙_, ap}
 use lib.Dec.{eqb, leb, ltb}
@@ -14,9 +14,9 @@ use Rattle.run.specs.declared.settings.Settings.{Settings}
 use Rattle.run.specs.declared.settings.Record.{Record}
 use Rattle.run.specs.Model.{holdsNan, isLate}
 use Rattle.run.specs.Outcome.{spent}
-use Rattle.run.specs.PlainRun.{Machine, hasEnded, attempt, plainRun}
+use Rattle.run.specs.PlainRun.{Machine, attempt, plainRun}
 use Rattle.run.specs.Tally.{ran, Told, told}
-use Rattle.run.specs.Calls.{recordOf, accepted, AfterAdvance, advanceOf, Session, call, calls}
+use Rattle.run.specs.Calls.{accepted, AfterAdvance, advanceOf, Session, call, calls}
 use Rattle.run.specs.Demand.{fed, begun, opened}
 use Rattle.run.specs.DemandProof.{Given, accepted-given, opened-at}
 use Rattle.run.specs.OneCall.{sessionAt, one-session, told-runs}

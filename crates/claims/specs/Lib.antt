@@ -3,6 +3,7 @@ pub mod BytesExactly
 pub mod CommandBytesLaws
 pub mod CommandKindLaws
 pub mod CommandsLaws
+pub mod DefinitionLaws
 pub mod EndedStays
 pub mod Examples
 pub mod FitLaws

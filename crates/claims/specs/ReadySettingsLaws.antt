@@ -34,11 +34,15 @@ ready-fault {p} c cs r = fault-setting p c (ready-kind c cs r) (r .idle) (r .fre
 
 module _ (p : Places) (c : Command) (cs : List Command) (from : ℕ) (h : 0 < from) (r : Ready p (c ∷ cs)) where
   -- of each kind: this one, which comes no more, or another, of which nothing changes
-  which : (k : ℕ) → ((kind c ≡ k) × (placeOf (noted p c from) k ≡ from) × (times k cs ≡ 0)) ⊎ ((placeOf (noted p c from) k ≡ placeOf p k) × (times k (c ∷ cs) ≡ times k cs))
+  abbrev Which : ℕ → Type 0
+  Which k =
+      ((kind c ≡ k) × (placeOf (noted p c from) k ≡ from) × (times k cs ≡ 0))
+      ⊎ ((placeOf (noted p c from) k ≡ placeOf p k) × (times k (c ∷ cs) ≡ times k cs))
+
+  which : (k : ℕ) → Which k
   which k = go (eqb k (kind c)) refl
     where
-      go : (b : Bool) → eqb k (kind c) ≡ b
-          → ((kind c ≡ k) × (placeOf (noted p c from) k ≡ from) × (times k cs ≡ 0)) ⊎ ((placeOf (noted p c from) k ≡ placeOf p k) × (times k (c ∷ cs) ≡ times k cs))
+      go : (b : Bool) → eqb k (kind c) ≡ b → Which k
       go true b =
           let same : kind c ≡ k = sym (eqb-true k (kind c) b) in
           let gone : times (kind c) cs ≡ 0 = omega (arith, r .once (kind c), times-here c cs) in

@@ -58,7 +58,8 @@ module _ (s : List ℕ) where
     enough : length s ≤ n + at
     is : readOrder s ≡ orderFrom n s at p
 
-  from-next : (n at : ℕ) (p : Places) → at < length s → commandFault p (commandAt s at) ≡ 0 → (byteAt s at ≡ 9 → ⊥) → length s ≤ n + at → readOrder s ≡ orderFrom n s at p
+  from-next : (n at : ℕ) (p : Places) → at < length s → commandFault p (commandAt s at) ≡ 0 → (byteAt s at ≡ 9 → ⊥)
+      → length s ≤ n + at → readOrder s ≡ orderFrom n s at p
       → From (nextAt s at) (noted p (commandAt s at) (at + 1))
   unfolding orderFrom unlessFault
   from-next zero at p l f e h i = absurd (omega arith)
@@ -74,7 +75,8 @@ module _ (s : List ℕ) where
   reached-from first = record { n = length s; enough = omega arith; is = refl }
   reached-from (next {at} {p} r l f e) = let m = reached-from r in from-next (m .n) at p l f e (m .enough) (m .is)
 
-  faulty-here : (n at number : ℕ) (p : Places) → at < length s → length s ≤ n + at → commandFault p (commandAt s at) ≡ number → 0 < number → orderFrom n s at p ≡ Refused number at
+  faulty-here : (n at number : ℕ) (p : Places) → at < length s → length s ≤ n + at
+      → commandFault p (commandAt s at) ≡ number → 0 < number → orderFrom n s at p ≡ Refused number at
   unfolding orderFrom unlessFault
   faulty-here zero at number p l h f w = absurd (omega arith)
   faulty-here (suc n) at zero p l h f w = absurd (omega arith)
@@ -85,7 +87,8 @@ module _ (s : List ℕ) where
   ends-none zero at p h = refl
   ends-none (suc n) at p h = rw (le-leb (length s) at h)
 
-  ends-early : (n at : ℕ) (p : Places) → commandAt s at ≡ End → commandFault p End ≡ 0 → at + 1 < length s → length s ≤ n + at → orderFrom n s at p ≡ Refused 3 (at + 1)
+  ends-early : (n at : ℕ) (p : Places) → commandAt s at ≡ End → commandFault p End ≡ 0
+      → at + 1 < length s → length s ≤ n + at → orderFrom n s at p ≡ Refused 3 (at + 1)
   unfolding orderFrom unlessFault ended
   ends-early zero at p c f l h = absurd (omega arith)
   ends-early (suc n) at p c f l h =

@@ -1,5 +1,5 @@
 -- 01, "Lines": "for 1 to 4 the byte position": the reader's refusals have these numbers, and a position up to the length: `refused-number`.
-use Prim.Native.Nat.{ℕ, zero, suc, _+_, _≤_, _<_}
+use Prim.Native.Nat.{ℕ, zero, suc, _+_, _≤_}
 use mathlib.Core.Bool.{Bool, true, false, cond}
 use mathlib.Core.List.{List}
 use mathlib.Core.Path.{_≡_}

@@ -13,8 +13,8 @@ use Rattle.vectors.specs.Grid.{pointsOf, spacingOf, pointOf}
 use Rattle.vectors.specs.Memory.{tab}
 use Rattle.vectors.specs.Powers.{reciprocalOf}
 use Rattle.vectors.specs.Stencil.{diffAt, diffOf, neumannOf}
-use Rattle.physics.specs.Constraints.{Constraints, radialGradientOf, integrandOf, normalisedOf, lapseOf, energyDensityAt, energyDensityOf, radialFactorAt, radialFactorOf}
-use Rattle.physics.specs.Constraints.{massAt, massOf, charSpeedOf, constraintsOf}
+use Rattle.physics.specs.Constraints.{Constraints, radialGradientOf, integrandOf, normalisedOf, lapseOf, energyDensityAt, energyDensityOf}
+use Rattle.physics.specs.Constraints.{radialFactorAt, radialFactorOf, massAt, massOf, charSpeedOf, constraintsOf}
 use Rattle.physics.specs.Equations.{boundedOf}
 use Rattle.physics.specs.InitialState.{exponentAt, waveProfileOf, initialStateOf}
 use Rattle.physics.specs.Integral.{integralOf}
@@ -28,8 +28,8 @@ use Rattle.run.specs.Frames.{samplesOf, sampleOf, sampledBy}
 use Rattle.run.specs.Model.{firstState, nextState, stepOf, deltaNext, framesNext, frameOf, holdsNan}
 use Rattle.run.specs.PlainRun.{Machine, hasEnded, start, attempt, plainRun}
 use Rattle.run.specs.PlainRunLaws.{attempt-ended, attempt-breaks, attempt-steps}
+use Rattle.claims.specs.DefinitionLaws.{constraints-is, state-is, initial-is, step-is}
 use Rattle.claims.specs.FitLaws.{Fits, AllFit, cons-fit, append-fit, set-fit, map-fit, tab-fit, EachFits, none-fits, snoc-fits}
-use Rattle.claims.specs.FlatSpace.{constraints-is, state-is, initial-is, step-is}
 
 -- ---- vectors, each by its last operation
 module _ (level : ℕ) where

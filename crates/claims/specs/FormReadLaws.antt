@@ -43,7 +43,7 @@ module _ (s : List ℕ) where
   step-ends n at p e l b =
       rw (lt-leb (length s) at (omega arith), command-end s at (omega arith) e, e, b, le-ltb (at + 1) (length s) (omega arith))
 
-  -- the settings
+  -- ---- the settings: where they are read, `rest` is to come
   record Settled (r : Read) (rest : List Command) : Type 0 where
     n : ℕ
     at : ℕ
@@ -80,7 +80,7 @@ module _ (s : List ℕ) where
       settled-next c cs rest n at p d r
       (settle cs rest (d .m) (nextAt s at) (noted p c (at + 1)) (d .then) (omega arith) (ready-next p c cs (at + 1) (omega arith) r))
 
-  -- the advances and 09
+  -- ---- the advances and 09
   pub record Ended (r : Read) : Type 0 where
     pub p : Places
     pub is : r ≡ Order (settingsAt s p) p
@@ -117,6 +117,7 @@ module _ (s : List ℕ) where
   unfolding commandFault beginFault
   begin-fine p b c = rw (b, c)
 
+  -- ---- 07, and the whole form
   form-begins : (budgets : List ℕ) → Settled (readOrder s) (Begin ∷ (map Advance budgets ++ (End ∷ []))) → Ended (readOrder s)
   unfolding noted begun kind
   form-begins budgets a =

@@ -1,4 +1,4 @@
--- Demand 3 is not empty for full and for refused calls either: a list of calls that answers full, refused 14, refused 11, and then an end.
+-- Demand 3 is not empty for full and refused calls either: a list of calls that are answered full, refused 14, refused 11, and then an end.
 use Prim.Native.Nat.{ℕ, _+_, _-_}
 use mathlib.Core.Bool.{true, false, not}
 use mathlib.Core.List.{List, [], _∷_}

@@ -9,12 +9,13 @@ use Rattle.run.specs.Order.{commandAt, nextAt, noPlaces, noted, commandFault}
 use Rattle.run.specs.declared.order.Command.the-variants.{End}
 use Rattle.run.specs.declared.order.Places.{Places}
 
--- every command before `at` has no fault after those before it, and none of them is 09; p is what came
+-- every command before `at` has no fault after those before it, and none of them is 09; p says which came
 pub data Reached (s : List ℕ) : ℕ → Places → Type 0 where
   first : Reached s 0 noPlaces
   next : {at : ℕ} {p : Places} → Reached s at p → at < length s → commandFault p (commandAt s at) ≡ 0 → (byteAt s at ≡ 9 → ⊥)
       → Reached s (nextAt s at) (noted p (commandAt s at) (at + 1))
 
+-- the three causes
 pub data Faulty (s : List ℕ) (number position : ℕ) : Type 0 where
   -- "first command at fault, its first byte the position"
   atCommand : (p : Places) → Reached s position p → position < length s

@@ -19,6 +19,7 @@ use Rattle.claims.specs.OrderFaults.{Reached, first, next, Faulty, atCom
 
 module _ (s : List ℕ) where
   -- ---- from the answer to its cause
+  -- what a reader's answer tells of its cause
   abbrev Why : Read → Type 0
   Why (Refused number position) = Faulty s number position
   Why (Order set p) = Unit {0}

@@ -1,5 +1,6 @@
 -- simulate.rs, lines 17 to 50, transcribed; as long as no attempt has broken the run, 01's plain run is that loop: `simulate-is`.
--- Left out: lines 15, 33 to 41 and 47 (wall clock and logger), and 52 to 61, which hand the variables on. The file counts in an i32.
+-- Left out: lines 15, 33 to 41 and 47 (wall clock and logger), and 52 to 61, which hand the variables on. The count is an i32 in the file and a
+-- whole number here. Where 01 breaks the run, the file panics for a NaN in the field (state_builder.rs, line 36) and goes on for any other.
 use Prim.Native.Nat.{ℕ, zero, suc, _+_}
 use mathlib.Core.Bool.{Bool, true, false, cond, not, _||_, _&&_, true≢false}
 use mathlib.Core.List.{List, [], _∷_, _++_}
@@ -100,7 +101,7 @@ module _ (s : Settings) where
   unfolding loopBody variablesOf nextState isLate
   body-steps m e h = rw (saves (m .state), attempt-steps s m e h, le-leb 1 (m .steps + 1) (omega arith))
 
-  -- an attempt that leaves the run unbroken
+  -- an attempt that leaves the run unbroken is a turn, or none where the loop was left
   turn-is : (m : Machine) → attempt s m .broken ≡ false → m .broken ≡ false
       → cond (goesOn (variablesOf m)) (loopBody (variablesOf m)) (variablesOf m) ≡ variablesOf (attempt s m)
   turn-is m b unbroken = rw (goes-on m unbroken) (go (hasEnded s m) refl (holdsNan (nextState s (m .state))) refl)
@@ -135,10 +136,11 @@ module _ (s : Settings) where
       let unbroken = mark-stays (plainRun s k) b in
       ap (λ (v : Variables). cond (goesOn v) (loopBody v) v) (simulate-is k unbroken) ∙ turn-is (plainRun s k) b unbroken
 
-  -- the loop is left where the run has ended, with 01's outcome: "collapse with mass", "else timeout"
+  -- the loop is left exactly where the run has ended
   pub simulate-ends : (k : ℕ) → plainRun s k .broken ≡ false → goesOn (simulated k) ≡ not (hasEnded s (plainRun s k))
   simulate-ends k b = ap goesOn (simulate-is k b) ∙ goes-on (plainRun s k) b
 
+  -- and then the outcome is "collapse with mass", "else timeout", by the mass that line 58 hands on
   pub simulate-outcome : (k : ℕ) → plainRun s k .broken ≡ false → hasEnded s (plainRun s k) ≡ true
       → outcomeOf s (plainRun s k) ≡ option (simulated k .blackHoleMass) collapse timeout
   unfolding variablesOf ended outcome

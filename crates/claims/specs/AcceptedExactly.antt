@@ -11,7 +11,8 @@ use Rattle.run.specs.declared.order.Command.{Command}
 use Rattle.run.specs.declared.order.Command.the-variants.{Amplitude, Level, MaxTime, Interval, DxLevel, Skip, Begin, Advance, End}
 use Rattle.run.specs.declared.order.Read.the-variants.{Order}
 use Rattle.claims.specs.OrderForm.{settingCommands, HasForm, Accepts}
-use Rattle.claims.specs.CommandKindLaws.{kind, times, firstOf, times-here, times-tail, times-perm, first-perm, six-none, six-most}
+use Rattle.claims.specs.CommandKindLaws.{firstOf, times-here, times-tail, times-perm, first-perm, six-none, six-most}
+use Rattle.claims.specs.OrderFaults.{kind, times}
 use Rattle.claims.specs.CommandsLaws.{heads}
 use Rattle.claims.specs.OrderFormLaws.{read-form}
 use Rattle.claims.specs.FormReadLaws.{form-ends}

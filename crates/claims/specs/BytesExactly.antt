@@ -15,7 +15,8 @@ use Rattle.run.specs.declared.settings.Settings.{Settings}
 use Rattle.run.specs.declared.order.Command.{Command}
 use Rattle.run.specs.declared.order.Command.the-variants.{Amplitude, Level, MaxTime, Interval, DxLevel, Skip, Begin, Advance, End, Wrong}
 use Rattle.claims.specs.OrderForm.{commandsFrom, commandsIn, settingCommands, formOf, Spells, none, more, HasForm, HasBytes, Accepts}
-use Rattle.claims.specs.CommandKindLaws.{kind, times, times-append, times-tail, times-perm, six-none}
+use Rattle.claims.specs.CommandKindLaws.{times-append, times-tail, times-perm, six-none}
+use Rattle.claims.specs.OrderFaults.{kind, times}
 use Rattle.claims.specs.CommandsLaws.{head-of, none-left}
 use Rattle.claims.specs.CommandBytesLaws.{operandAt, Coded, coded, encodes}
 use Rattle.claims.specs.AcceptedExactly.{accepted-exactly}
@@ -26,10 +27,10 @@ module _ {c : Command} {b : List ℕ} (e : Coded c b) (before after : List ℕ) 
   abbrev s : List ℕ
   s = before ++ (b ++ after)
 
-  own-length : length b ≡ 1 + operandSize (e .code)
+  pub own-length : length b ≡ 1 + operandSize (e .code)
   own-length = let w = e .whole in omega (arith, ap length (e .is))
 
-  whole-length : length s ≡ length before + (1 + operandSize (e .code) + length after)
+  pub whole-length : length s ≡ length before + (1 + operandSize (e .code) + length after)
   whole-length = omega (arith, own-length, length-append before (b ++ after), length-append b after)
 
   code-at : byteAt s (length before) ≡ e .code
@@ -47,13 +48,13 @@ module _ {c : Command} {b : List ℕ} (e : Coded c b) (before after : List ℕ) 
   unfolding isCut
   not-cut = rw (code-at, le-ltb (length s) (length before + 1 + operandSize (e .code)) (omega (arith, whole-length)))
 
-  command-there : commandAt s (length before) ≡ c
+  pub command-there : commandAt s (length before) ≡ c
   unfolding commandAt
   command-there =
       rw (lt-leb (length s) (length before) (omega (arith, whole-length)), code-at, e .known, not-cut)
       (e .read s (length before + 1) (omega (arith, whole-length)) operand-at)
 
-  next-there : nextAt s (length before) ≡ length (before ++ b)
+  pub next-there : nextAt s (length before) ≡ length (before ++ b)
   unfolding nextAt
   next-there =
       rw (not-cut, code-at)
@@ -77,12 +78,12 @@ commands-read (more {c} {cs} {b} {t} e r) before (suc n) h =
 
 -- ---- from the commands to the bytes
 -- a command that is not wrong by itself stands there whole
-record Whole (s : List ℕ) (at : ℕ) (c : Command) : Type 0 where
-  inside : at + 1 + operandSize (byteAt s at) ≤ length s
-  read : commandOf s (at + 1) (byteAt s at) ≡ c
-  after : nextAt s at ≡ at + 1 + operandSize (byteAt s at)
+pub record Whole (s : List ℕ) (at : ℕ) (c : Command) : Type 0 where
+  pub inside : at + 1 + operandSize (byteAt s at) ≤ length s
+  pub read : commandOf s (at + 1) (byteAt s at) ≡ c
+  pub after : nextAt s at ≡ at + 1 + operandSize (byteAt s at)
 
-whole-at : (s : List ℕ) (at : ℕ) (c : Command) → commandAt s at ≡ c → kind c < 9 → Whole s at c
+pub whole-at : (s : List ℕ) (at : ℕ) (c : Command) → commandAt s at ≡ c → kind c < 9 → Whole s at c
 unfolding commandAt nextAt isCut kind
 whole-at s at c e k = go (leb (length s) at) (isKnown (byteAt s at)) (ltb (length s) (at + 1 + operandSize (byteAt s at))) refl e
   where
@@ -95,7 +96,7 @@ whole-at s at c e k = go (leb (length s) at) (isKnown (byteAt s at)) (ltb (lengt
         record { inside = ltb-false (length s) (at + 1 + operandSize (byteAt s at)) cut; read = e; after = rw cut }
 
 -- a byte, n more, and the rest
-split-operand : (n : ℕ) (s : List ℕ) (at : ℕ) → at < length s → drop at s ≡ (byteAt s at ∷ operandAt n s (at + 1)) ++ drop (at + 1 + n) s
+pub split-operand : (n : ℕ) (s : List ℕ) (at : ℕ) → at < length s → drop at s ≡ (byteAt s at ∷ operandAt n s (at + 1)) ++ drop (at + 1 + n) s
 split-operand n s at h =
     drop-cons s at 0 h
     ∙ ap (λ (i : ℕ). byteAt s at ∷ drop i s) (let z : suc at ≡ at + 1 = omega arith in z)

@@ -13,7 +13,7 @@ use Rattle.run.specs.Order.{isKnown, operandSize, switchOf, commandOf}
 use Rattle.run.specs.declared.order.Command.{Command}
 use Rattle.run.specs.declared.order.Command.the-variants.{Amplitude, Level, MaxTime, Interval, DxLevel, Advance, Wrong}
 use Rattle.claims.specs.OrderForm.{numberOf, Encodes, is01, is02, is03, is04, is05, is06-no, is06-yes, is07, is08, is09}
-use Rattle.claims.specs.CommandKindLaws.{kind}
+use Rattle.claims.specs.OrderFaults.{kind}
 
 -- ---- n bytes from a position on
 abbrev pub operandAt : ℕ → List ℕ → ℕ → List ℕ
@@ -22,7 +22,7 @@ operandAt n s from = take n (drop from s)
 pub length-operand : (n : ℕ) (s : List ℕ) (from : ℕ) → from + n ≤ length s → length (operandAt n s from) ≡ n
 length-operand n s from h = length-take-le n (drop from s) (omega (arith, length-drop from s))
 
-operand-cons : (n : ℕ) (s : List ℕ) (from : ℕ) → from < length s → operandAt (suc n) s from ≡ byteAt s from ∷ operandAt n s (from + 1)
+pub operand-cons : (n : ℕ) (s : List ℕ) (from : ℕ) → from < length s → operandAt (suc n) s from ≡ byteAt s from ∷ operandAt n s (from + 1)
 operand-cons n s from h =
     ap (take (suc n)) (drop-cons s from 0 h)
     ∙ ap (λ (i : ℕ). byteAt s from ∷ take n (drop i s)) (let z : suc from ≡ from + 1 = omega arith in z)

@@ -1,4 +1,4 @@
--- Kinds of commands, how many of a kind a list has, and that the six settings are one of each kind of setting.
+-- Laws of kinds of commands: how many of a kind a list has, and that the six settings are one of each kind of setting.
 use Prim.Native.Nat.{ℕ, zero, suc, _+_, _≤_, _<_}
 use mathlib.Core.Bool.{Bool, true, false, cond}
 use mathlib.Core.List.{List, [], _∷_, _++_}
@@ -11,27 +11,11 @@ use borrow.Author.Tests.{lt-ltb, le-ltb, eq-eqb, ne-eqb}
 use Rattle.vectors.specs.MemoryLaws.{side}
 use Rattle.run.specs.declared.settings.Settings.{Settings}
 use Rattle.run.specs.declared.order.Command.{Command}
-use Rattle.run.specs.declared.order.Command.the-variants.{Amplitude, Level, MaxTime, Interval, DxLevel, Skip, Begin, Advance, End, Wrong}
+use Rattle.run.specs.declared.order.Command.the-variants.{End}
+use Rattle.claims.specs.OrderFaults.{kind, times}
 use Rattle.claims.specs.OrderForm.{settingCommands}
 
--- the settings are 0 to 5
-unfoldable pub kind : Command → ℕ
-kind (Amplitude x) = 0
-kind (Level x) = 1
-kind (MaxTime x) = 2
-kind (Interval x) = 3
-kind (DxLevel x) = 4
-kind (Skip x) = 5
-kind Begin = 6
-kind (Advance n) = 7
-kind End = 8
-kind (Wrong n) = 9
-
--- how many of a kind, and the first of it
-unfoldable pub times : ℕ → List Command → ℕ
-times k [] = 0
-times k (c ∷ cs) = cond (eqb (kind c) k) (suc (times k cs)) (times k cs)
-
+-- the first of a kind
 unfoldable pub firstOf : ℕ → List Command → Command
 firstOf k [] = End
 firstOf k (c ∷ cs) = cond (eqb (kind c) k) c (firstOf k cs)

@@ -17,7 +17,7 @@ use Rattle.run.specs.declared.order.Places.{Places}
 use Rattle.run.specs.declared.order.Read.{Read}
 use Rattle.run.specs.declared.order.Read.the-variants.{Order}
 use Rattle.claims.specs.OrderForm.{commandsFrom, commandsIn, HasForm}
-use Rattle.claims.specs.CommandKindLaws.{kind, times}
+use Rattle.claims.specs.OrderFaults.{kind, times}
 use Rattle.claims.specs.SettingPlacesLaws.{placeOf}
 use Rattle.claims.specs.ReadySettingsLaws.{Ready, ready-kind, ready-fault, ready-next, ready-first}
 use Rattle.claims.specs.CommandsLaws.{Head, head-of, none-left}

@@ -6,12 +6,15 @@ pub mod CommandsLaws
 pub mod DefinitionLaws
 pub mod EndedStays
 pub mod Examples
+pub mod FaultExactly
+pub mod FaultReadLaws
 pub mod FitLaws
 pub mod FlatSpace
 pub mod FormReadLaws
 pub mod FullAndRefused
 pub mod LaterCalls
 pub mod LongerMemory
+pub mod MisplacedLaws
 pub mod NanLaws
 pub mod NoNanFrames
 pub mod NotEmpty
@@ -23,7 +26,6 @@ pub mod ReadySettingsLaws
 pub mod Recovered
 pub mod RefusalNumbers
 pub mod RefusedExactly
-pub mod RefusedNumber
 pub mod ReportExamples
 pub mod RunFits
 pub mod RunRecovered
@@ -31,3 +33,4 @@ pub mod SettingPlacesLaws
 pub mod Simulate
 pub mod WholeOutput
 pub mod WholeOutputLaws
+pub mod SoundLaws

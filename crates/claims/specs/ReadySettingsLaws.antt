@@ -13,7 +13,8 @@ use Rattle.run.specs.declared.settings.Settings.{Settings}
 use Rattle.run.specs.declared.order.Command.{Command}
 use Rattle.run.specs.declared.order.Places.{Places}
 use Rattle.claims.specs.OrderForm.{settingCommands}
-use Rattle.claims.specs.CommandKindLaws.{kind, times, times-here, times-other, times-tail, times-perm, six-some, six-none, six-most}
+use Rattle.claims.specs.CommandKindLaws.{times-here, times-other, times-tail, times-perm, six-some, six-none, six-most}
+use Rattle.claims.specs.OrderFaults.{kind, times}
 use Rattle.claims.specs.SettingPlacesLaws.{placeOf, own-place, other-place, begun-setting, fault-setting}
 
 pub record Ready (p : Places) (cs : List Command) : Type 0 where
@@ -67,7 +68,7 @@ module _ (p : Places) (c : Command) (cs : List Command) (from : ℕ) (h : 0 < fr
         ];
       }
 
-none-yet : (k : ℕ) → placeOf noPlaces k ≡ 0
+pub none-yet : (k : ℕ) → placeOf noPlaces k ≡ 0
 unfolding placeOf
 none-yet zero = refl
 none-yet (suc zero) = refl

@@ -15,7 +15,7 @@ use Rattle.run.specs.declared.order.Command.the-variants.{End}
 use Rattle.run.specs.declared.order.Places.{Places}
 use Rattle.run.specs.declared.order.Read.{Read}
 use Rattle.run.specs.declared.order.Read.the-variants.{Refused, Order}
-use Rattle.claims.specs.OrderFaults.{Reached, first, next, Faulty, atCommand, noEnd, behindEnd}
+use Rattle.claims.specs.OrderFaults.{Reached, first, next, Faulty, atCommand, atLength, behindEnd}
 
 module _ (s : List ℕ) where
   -- ---- from the answer to its cause
@@ -34,7 +34,7 @@ module _ (s : List ℕ) where
 
   why-from : (n at : ℕ) (p : Places) → Reached s at p → length s ≤ n + at → Why (orderFrom n s at p)
   unfolding orderFrom unlessFault
-  why-from zero at p r h = noEnd at p r (omega arith) refl refl
+  why-from zero at p r h = atLength at p r (omega arith) refl refl
   why-from (suc n) at p r h =
       go (leb (length s) at) (commandFault p (commandAt s at)) (eqb (byteAt s at) 9) refl refl refl
       (λ l f e. why-from n (nextAt s at) (noted p (commandAt s at) (at + 1)) (next r l f e) (omega (arith, next-after s at l)))
@@ -45,7 +45,7 @@ module _ (s : List ℕ) where
       go : (a : Bool) (f : ℕ) (e : Bool) → leb (length s) at ≡ a → commandFault p (commandAt s at) ≡ f → eqb (byteAt s at) 9 ≡ e
           → (at < length s → commandFault p (commandAt s at) ≡ 0 → (byteAt s at ≡ 9 → ⊥) → Why rest)
           → Why (cond a (Refused 1 (length s)) (unlessFault f at (cond e (ended s (at + 1) p) rest)))
-      go true f e la fa ea more = noEnd at p r (leb-true (length s) at la) refl refl
+      go true f e la fa ea more = atLength at p r (leb-true (length s) at la) refl refl
       go false (suc f) e la fa ea more = atCommand p r (leb-false (length s) at la) fa (omega arith)
       go false zero true la fa ea more =
           let c = command-end s at (leb-false (length s) at la) (eqb-true (byteAt s at) 9 ea) in
@@ -98,7 +98,7 @@ module _ (s : List ℕ) where
   fault-refuses : (number position : ℕ) → Faulty s number position → readOrder s ≡ Refused number position
   fault-refuses number position (atCommand p r l f w) =
       let m = reached-from r in m .is ∙ faulty-here (m .n) position number p l (m .enough) f w
-  fault-refuses number position (noEnd at p r l e g) =
+  fault-refuses number position (atLength at p r l e g) =
       let m = reached-from r in m .is ∙ ends-none (m .n) at p l ∙ ap₂ Refused (sym e) (sym g)
   fault-refuses number position (behindEnd at p r c f l e g) =
       let m = reached-from r in m .is ∙ ends-early (m .n) at p c f l (m .enough) ∙ ap₂ Refused (sym e) (sym g)

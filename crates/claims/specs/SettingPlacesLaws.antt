@@ -12,7 +12,7 @@ use Rattle.run.specs.Order.{noted, begun, settingFault, commandFault}
 use Rattle.run.specs.declared.order.Command.{Command}
 use Rattle.run.specs.declared.order.Command.the-variants.{Amplitude, Level, MaxTime, Interval, DxLevel, Skip, Begin, Advance, End, Wrong}
 use Rattle.run.specs.declared.order.Places.{Places}
-use Rattle.claims.specs.CommandKindLaws.{kind}
+use Rattle.claims.specs.OrderFaults.{kind}
 
 abbrev settingPlaces : Places → List ℕ
 settingPlaces p = p .amplitude ∷ p .level ∷ p .«max_time» ∷ p .interval ∷ p .«dx_level» ∷ p .skip ∷ []
@@ -65,16 +65,20 @@ setting-fine : (p : Places) (place : ℕ) → begun p ≡ false → place ≡ 0 
 unfolding settingFault
 setting-fine p place b e = rw (b, le-ltb 0 place (omega arith))
 
--- it has no fault where it has not come before
-pub fault-setting : (p : Places) (c : Command) → kind c < 6 → begun p ≡ false → placeOf p (kind c) ≡ 0 → commandFault p c ≡ 0
+-- its fault is by its own place
+pub setting-fault : (p : Places) (c : Command) → kind c < 6 → commandFault p c ≡ settingFault p (placeOf p (kind c))
 unfolding kind commandFault placeOf
-fault-setting p (Amplitude x) h b e = setting-fine p (p .amplitude) b e
-fault-setting p (Level x) h b e = setting-fine p (p .level) b e
-fault-setting p (MaxTime x) h b e = setting-fine p (p .«max_time») b e
-fault-setting p (Interval x) h b e = setting-fine p (p .interval) b e
-fault-setting p (DxLevel x) h b e = setting-fine p (p .«dx_level») b e
-fault-setting p (Skip x) h b e = setting-fine p (p .skip) b e
-fault-setting p Begin h b e = absurd (omega arith)
-fault-setting p (Advance n) h b e = absurd (omega arith)
-fault-setting p End h b e = absurd (omega arith)
-fault-setting p (Wrong n) h b e = absurd (omega arith)
+setting-fault p (Amplitude x) h = refl
+setting-fault p (Level x) h = refl
+setting-fault p (MaxTime x) h = refl
+setting-fault p (Interval x) h = refl
+setting-fault p (DxLevel x) h = refl
+setting-fault p (Skip x) h = refl
+setting-fault p Begin h = absurd (omega arith)
+setting-fault p (Advance n) h = absurd (omega arith)
+setting-fault p End h = absurd (omega arith)
+setting-fault p (Wrong n) h = absurd (omega arith)
+
+-- it has none where it has not come before
+pub fault-setting : (p : Places) (c : Command) → kind c < 6 → begun p ≡ false → placeOf p (kind c) ≡ 0 → commandFault p c ≡ 0
+fault-setting p c h b e = setting-fault p c h ∙ setting-fine p (placeOf p (kind c)) b e

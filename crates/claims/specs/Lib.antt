@@ -31,6 +31,6 @@ pub mod RunFits
 pub mod RunRecovered
 pub mod SettingPlacesLaws
 pub mod Simulate
+pub mod SoundLaws
 pub mod WholeOutput
 pub mod WholeOutputLaws
-pub mod SoundLaws

@@ -26,7 +26,7 @@ use Rattle.run.specs.PlainRun.{start, plainRun, hasEnded, outcomeOf, option}
 use Rattle.run.specs.PlainRunLaws.{plainRun-formed, plainRun-skipped}
 use Rattle.run.specs.Tally.{tooMany}
 use Rattle.claims.specs.RefusalNumbers.{among, refusalAmong, among-longer, programRefusals, program-refusals}
-use Rattle.claims.specs.RefusedNumber.{refused-number}
+use Rattle.claims.specs.FaultExactly.{refused-number}
 use Rattle.claims.specs.WholeOutput.{endsAdvance, Advances, noAdvance, advance, firstFrames, Whole, refusesOrder, Output, carriedOut, refused}
 
 -- ---- what the advances of an order print

@@ -1,9 +1,12 @@
 // Carries out the order on standard input: its lines go to standard output. A read or a write that fails ends the program; standard error says
 // which, and a line that was cut has no newline.
-ghost use mathlib.Core.Bool.{true};
+ghost use Prim.Native.Nat.{_≤_};
+ghost use mathlib.Core.Bool.{true, _&&_};
 ghost use mathlib.Core.Path.{_≡_};
 ghost use lib.ListN.{length};
-ghost use Rattle.collapse.specs.Turns.{isMore, Follows};
+ghost use Rattle.run.specs.CarryOut.{afterCarried};
+ghost use Rattle.collapse.specs.Turns.{lentInput, Lent, isMore, leftOf, endOf, thenCalled, Finished};
+ghost use Rattle.collapse.specs.Input.{Counted};
 use run::carry_out::Carried;
 use run::carry_out::begin_order;
 use run::carry_out::go_on;
@@ -24,7 +27,10 @@ fn main() {
 }
 
 // Fills the buffer as far as the input goes.
-fn read_input(buffer: &mut [u8]) -> Input {
+fn read_input(buffer: &mut [u8]) -> Input
+    requires { ⌜ length (now buffer) ≡ lentInput ⌝ }
+    ensures { λ r. ⌜ Counted (length (now (buffer .exit))) r ⌝ }
+{
     let most = buffer.len();
     let mut count = 0;
     while count < most {
@@ -42,39 +48,46 @@ fn read_input(buffer: &mut [u8]) -> Input {
 }
 
 // Lends for level 7, 8,192 frame numbers and their lines.
-fn answer(buffer: &[u8], count: usize) {
+fn answer(buffer: &[u8], count: usize)
+    requires { ⌜ count ≤ length (now buffer) ⌝ }
+{
     let mut state = [0.0; 1032];
     let mut work = [0.0; 5160];
     let mut frames = [0.0; 8192];
     let mut out = [0u8; 147520];
-    if count <= buffer.len() {
-        carry_out(
-            &buffer[0..count],
-            &mut state,
-            &mut work,
-            &mut frames,
-            &mut out,
-        );
+    let written = carry_out(
+        &buffer[0..count],
+        &mut state,
+        &mut work,
+        &mut frames,
+        &mut out,
+    );
+    if !written {
+        os::fail(b"collapse: standard output");
     }
 }
 
-// The whole order, a call at a time.
+// The whole order, a call at a time; whether all was written.
 fn carry_out(
     input: &[u8],
     state: &mut [f64],
     work: &mut [f64],
     frames: &mut [f64],
     out: &mut [u8],
-) {
+) -> bool
+    requires { ⌜ Lent (length (now state)) (length (now work)) (length (now frames)) (length (now out)) ⌝ }
+    ensures { λ r. ⌜ (r ≡ true → Finished (now (input .entry)) (now (state .entry)) (now (work .entry)) (now (frames .entry)) (now (out .entry)) (now (state .exit)) (now (frames .exit)) (now (out .exit))) ⌝ }
+{
     let mut call = begin_order(input, state, work, frames, out);
-    let mut more = send(call, out);
-    while more {
+    let mut written = write(out, end_of(call));
+    while goes_on(written, call) {
         call = next_call(call, input, state, work, frames, out);
-        more = send(call, out);
+        written = write(out, end_of(call));
     }
+    written
 }
 
-// The call after one that left a job.
+// The call after one that left a job; after any other none is made.
 fn next_call(
     call: Carried,
     input: &[u8],
@@ -83,7 +96,7 @@ fn next_call(
     frames: &mut [f64],
     out: &mut [u8],
 ) -> Carried
-    ensures { λ r. ⌜ Follows (now (input .entry)) (length (now (frames .entry))) call r ⌝ }
+    ensures { λ r. ⌜ afterCarried r (now (state .exit)) (now (frames .exit)) (now (out .exit)) ≡ thenCalled (leftOf call) (now (input .entry)) (now (state .entry)) (now (work .entry)) (now (frames .entry)) (now (out .entry)) ⌝ }
 {
     match call {
         Carried::NoRoom => Carried::NoRoom,
@@ -92,26 +105,30 @@ fn next_call(
     }
 }
 
-// Writes a call's lines; whether they were written and a job is left.
-fn send(call: Carried, out: &[u8]) -> bool
-    ensures { λ r. ⌜ (r ≡ true → isMore call ≡ true) ⌝ }
+// Whether the lines of a call were written and a job is left.
+fn goes_on(written: bool, call: Carried) -> bool
+    ensures { λ r. ⌜ r ≡ (written && isMore call) ⌝ }
 {
     match call {
         Carried::NoRoom => false,
-        Carried::Last(end) => {
-            write(out, end);
-            false
-        }
-        Carried::More(end, _) => write(out, end),
+        Carried::Last(_) => false,
+        Carried::More(_, _) => written,
     }
 }
 
-fn write(out: &[u8], end: usize) -> bool {
-    if end <= out.len() {
-        if io::write_all(libc::STDOUT_FILENO, &out[0..end]) {
-            return true;
-        }
-        os::fail(b"collapse: standard output");
+// Where the lines of a call end.
+fn end_of(call: Carried) -> usize
+    ensures { λ r. ⌜ r ≡ endOf call ⌝ }
+{
+    match call {
+        Carried::NoRoom => 0,
+        Carried::Last(end) => end,
+        Carried::More(end, _) => end,
     }
-    false
+}
+
+fn write(out: &[u8], end: usize) -> bool
+    requires { ⌜ end ≤ length (now out) ⌝ }
+{
+    io::write_all(libc::STDOUT_FILENO, &out[0..end])
 }

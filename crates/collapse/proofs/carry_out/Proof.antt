@@ -1,54 +1,79 @@
 -- `collapse::carry_out` meets its contract.
 use native.Mathlib.Omega.{arith}
-use mathlib.Core.Bool.{true}
-use mathlib.Core.Path.{_≡_, refl, subst}
-use Prim.Native.Nat.{ℕ}
+use mathlib.Core.Path.{_≡_, refl}
 use lib.ListN.{length}
 use borrow.Author.Needs.{needs}
-use Rattle.run.specs.CarryOutEnds.{callsLeft, FairNext}
+use Rattle.run.specs.CarryOut.{afterCarried}
+use Rattle.run.specs.CarryOutEnds.{callsLeft}
 use Rattle.collapse.specs.Turns.{isMore, leftOf}
-use Rattle.collapse.proofs.Turns.{first-fair}
+use Rattle.collapse.proofs.Turns.{Leads, leads-next, going-first, going-falls, going-ended, begun-ends, next-ends, went, stopped}
 use Rattle.collapse.proofs.carry_out.Statement.{statement}
 use Rattle.collapse.proofs.carry_out.Tie as tie
 
+-- the lengths stay, and the call is one of the order's
 abbrev Inv-loop : tie.InvT-loop
-Inv-loop input state₀ work₀ frames₀ out₀ call₀ more₀ state work frames out call more =
+Inv-loop input state₀ work₀ frames₀ out₀ call₀ written₀ state work frames out call written =
     (length state ≡ length state₀) × (length work ≡ length work₀) × (length frames ≡ length frames₀) × (length out ≡ length out₀)
-    × FairNext (length frames) (leftOf call)
-    × (more ≡ true → isMore call ≡ true)
+    × Leads input (length work₀) (length frames₀) (afterCarried call₀ state₀ frames₀ out₀) (afterCarried call state frames out)
 
 abbrev μ-loop : tie.MeasureT-loop
-μ-loop input state₀ work₀ frames₀ out₀ call₀ more₀ state work frames out call more = callsLeft input (leftOf call)
+μ-loop input state₀ work₀ frames₀ out₀ call₀ written₀ state work frames out call written = callsLeft input (leftOf call)
+
+write-requires : tie.Need-write-requires Inv-loop μ-loop
+write-requires c κs =
+    let b = c .before .before .before .before .before .before .before .before .before .before in
+    let a = b .before .before .before .before .before .before .before .before .before .before .args in
+    omega (arith, begun-ends (a .input .now) (a .state .now) (a .work .now) (a .frames .now) (a .out .now) (b .begin-order .result) _ _ _ (b .begin-order .ensures .0))
 
 loop-holds : tie.Need-loop-holds Inv-loop μ-loop
-loop-holds c =
-    let a = c .before .before .before .before .before .before .before .before .before .before .before .before .before .before .before .before .before .before .before .before .args in
-    let d = c .before .before .before .before .before .before .before .before .before .before .begin-order in (
-      refl,
-      refl,
-      refl,
-      refl,
-      subst (λ (n : ℕ). FairNext n (leftOf (d .result))) (omega arith)
-          (first-fair (a .input .now) (a .state .now) (a .work .now) (a .frames .now) (a .out .now) (d .result) _ _ _ (d .ensures .0)),
-      c .send .ensures,
-    )
+loop-holds c = (refl, refl, refl, refl, record { keeps = λ memory₀ work₀ frames₀ out₀ w f g. g })
+
+write-requires-2 : tie.Need-write-requires-2 Inv-loop μ-loop
+write-requires-2 c κs =
+    let n = c .before .before .before .before .before .before .before .before .before .before in
+    let v = n .before .before .before .before .before .before .before .loop in
+    let a = n .before .before .before .before .before .before .before .before .before .before .before .before .before .before .before .before .before .before .before .before .before .before .before .before .before .before .before .before .before .args in
+    omega (arith, next-ends (a .input .now) (v .state) (v .work) (v .frames) (v .out) (v .call) (n .next-call .result) _ _ _ (n .next-call .ensures))
 
 loop-less : tie.Need-loop-less Inv-loop μ-loop
 loop-less c =
-    let v = c .before .before .before .before .before .before .before .before .before .before .before .before .before .before .before .before .loop in
-    c .before .before .before .before .before .before .before .before .before .before .next-call .ensures .falls (v .inv .4) (v .inv .5 (c .before .before .before .before .before .before .before .before .before .before .before .before .before .before .before .loop-test .taken))
+    let n = c .before .before .before .before .before .before .before .before .before .before .before in
+    let t = n .before .before .before .before .before in
+    let v = t .before .before .loop in
+    let b = t .before .before .before .before .before .before .before .before .before .before .before .before .before .before in
+    let z = b .before .before .before .before .before .before .before .before .before .before in
+    let a = z .args in
+    let h = went (v .written) (isMore (v .call)) _ (t .before .goes-on .ensures) (t .if1 .taken) in
+    let first = going-first (a .input .now) (a .state .now) (a .work .now) (a .frames .now) (a .out .now) (z .pre) _ (b .begin-order .ensures .0) in
+    let going = v .inv .4 .keeps (a .state .now) (a .work .now) (a .frames .now) (a .out .now) (omega arith) (omega arith) first in
+    going-falls (a .input .now) (a .state .now) (a .work .now) (a .frames .now) (a .out .now) (v .state) (v .work) (v .frames) (v .out) (v .call) h (omega arith) going
+    (n .next-call .result) _ _ _ (n .next-call .ensures)
 
 loop-again : tie.Need-loop-again Inv-loop μ-loop
 loop-again c =
-    let v = c .before .before .before .before .before .before .before .before .before .before .before .before .before .before .before .before .loop in
-    let d = c .before .before .before .before .before .before .before .before .before .before .next-call in (
+    let n = c .before .before .before .before .before .before .before .before .before .before .before in
+    let t = n .before .before .before .before .before in
+    let v = t .before .before .loop in
+    let a = n .before .before .before .before .before .before .before .before .before .before .before .before .before .before .before .before .before .before .before .before .before .before .before .before .before .before .before .before .before .args in
+    let h = went (v .written) (isMore (v .call)) _ (t .before .goes-on .ensures) (t .if1 .taken) in (
       omega arith,
       omega arith,
       omega arith,
       omega arith,
-      subst (λ (n : ℕ). FairNext n (leftOf (d .result))) (omega arith) (d .ensures .fair (v .inv .4)),
-      c .send2 .ensures,
+      leads-next (a .input .now) (v .state) (v .work) (v .frames) (v .out) (v .call) (n .next-call .result) _ _ _ (n .next-call .ensures) h _ _ (v .inv .1)
+          (v .inv .2) _ (v .inv .4),
     )
+
+returns : tie.Need-returns Inv-loop μ-loop
+returns c =
+    let v = c .before .before .loop in
+    let b = c .before .before .before .before .before .before .before .before .before .before .before .before .before .before in
+    let z = b .before .before .before .before .before .before .before .before .before .before in
+    let a = z .args in
+    let first = going-first (a .input .now) (a .state .now) (a .work .now) (a .frames .now) (a .out .now) (z .pre) _ (b .begin-order .ensures .0) in
+    let going = v .inv .4 .keeps (a .state .now) (a .work .now) (a .frames .now) (a .out .now) (omega arith) (omega arith) first in
+    λ w. going-ended (a .input .now) (a .state .now) (a .work .now) (a .frames .now) (a .out .now) (v .state) (v .work) (v .frames) (v .out) (v .call)
+    (stopped (v .written) (isMore (v .call)) _ (c .before .goes-on .ensures) (c .if1 .left) w) going
 
 pub carry-out-spec : {M : Type 1} → statement M
 carry-out-spec =
@@ -58,13 +83,16 @@ carry-out-spec =
     μ-loop
     (λ c κs. search needs)
     (λ c κs. search needs)
+    write-requires
     loop-holds
     (λ c κs. search needs)
     (λ c κs. search needs)
+    (λ c κs. search needs)
+    write-requires-2
     loop-less
     loop-again
     (λ c. search needs)
     (λ c. search needs)
     (λ c. search needs)
     (λ c. search needs)
-    (λ c. search needs))
+    returns)

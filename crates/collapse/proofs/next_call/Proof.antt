@@ -7,16 +7,21 @@ use Rattle.collapse.proofs.next_call.Statement.{statement}
 use Rattle.collapse.proofs.next_call.Tie as tie
 
 returns : tie.Need-returns
-returns c = after-none _ _ _ (ap isMore (c .enum-told .given .1))
+returns c =
+    let a = c .before .before .before .before .before .before .before .args in
+    after-none (a .input .now) (a .state .now) (a .work .now) (a .frames .now) (a .out .now) (a .call) (ap isMore (c .enum-told .given .1))
 
 returns-2 : tie.Need-returns-2
-returns-2 c = after-none _ _ _ (ap isMore (c .enum-told2 .given .1))
+returns-2 c =
+    let a = c .before .before .before .before .before .before .before .args in
+    after-none (a .input .now) (a .state .now) (a .work .now) (a .frames .now) (a .out .now) (a .call) (ap isMore (c .enum-told2 .given .1))
 
 returns-3 : tie.Need-returns-3
 returns-3 c =
-    let a = c .before .before .before .before .before .before .before .before .before .before .before .before .before .before .before .before .before .before .before .before .before .args in
-    let d = c .before .before .before .before .before .before .before .before .go-on in
-    after-more (a .input .now) (a .state .now) (a .work .now) (a .frames .now) (a .out .now) (a .call) _ _ (c .before .before .before .before .before .before .before .before .before .before .before .before .before .before .call .given .1) (d .result) _ _ _ (d .ensures .0)
+    let d = c .before .before .before .before .before .before .before .before in
+    let m = d .before .before .before .before .before .before in
+    let a = m .before .before .before .before .before .before .before .args in
+    after-more (a .input .now) (a .state .now) (a .work .now) (a .frames .now) (a .out .now) (a .call) _ _ (m .call .given .1) _ (d .go-on .ensures .0)
 
 pub next-call-spec : {M : Type 1} → statement M
 next-call-spec =

@@ -1,0 +1,25 @@
+-- `collapse::main` meets its contract.
+use native.Mathlib.Omega.{arith}
+use mathlib.Core.Path.{subst}
+use borrow.Author.Needs.{needs}
+use Rattle.collapse.specs.Input.{Counted}
+use Rattle.collapse.proofs.main.Statement.{statement}
+use Rattle.collapse.proofs.main.Tie as tie
+
+answer-requires : tie.Need-answer-requires
+answer-requires c κs = subst (Counted _) (c .before .before .read .given .1) (c .before .before .before .before .before .read-input .ensures)
+
+pub main-spec : {M : Type 1} → statement M
+main-spec =
+    tie.close
+    (tie.spec
+    (λ c. search needs)
+    (λ c κs. search needs)
+    (λ c. search needs)
+    (λ c. search needs)
+    (λ c κs. search needs)
+    (λ c. search needs)
+    (λ c. search needs)
+    answer-requires
+    (λ c. search needs)
+    (λ c. search needs))

@@ -21,7 +21,7 @@ use Rattle.run.specs.Calls.{machineOf, attemptsFrom, beginOf, AfterAdvance, lef
 use Rattle.run.specs.Order.{readOrder}
 use Rattle.run.specs.Lines.{textsOf, refusal, refusalAt}
 use Rattle.run.specs.OrderLines.{linesOf}
-use Rattle.run.specs.CarryOut.{Turn, advanceTurn, beginTurn, Answered, refusedCall, printed, AfterCall, answeredBy, afterCarried, hasRoom, afterTurn, stayed, goOnOf, beginRead, beginOrderOf, thenPrinted, printedBy, callsIn}
+use Rattle.run.specs.CarryOut.{Turn, advanceTurn, beginTurn, AfterCall, afterCarried, hasRoom, afterTurn, stayed, goOnOf, beginRead, beginOrderOf, printedBy, callsIn}
 use Rattle.run.specs.CarryOutLaws.{order-prints}
 use Rattle.run.specs.CarryOutEnds.{callsLeft, callsOf, nextOf, FairNext, go-on-falls, go-on-fair, begin-fair}
 use Rattle.collapse.specs.Turns.{Lent, isMore, leftOf, endIn, endOf, textIn, thenCalled, callAt, textsTo, Finished}
@@ -209,14 +209,16 @@ pub record Leads (order : List ℕ) (work frames : ℕ) (c d : AfterCall) : Type
 
 pub leads-next :
     (order : List ℕ) (memory work frames : List Float) (out : List ℕ) (call r : Carried) (m f : List Float) (o : List ℕ) →
-    afterCarried r m f o ≡ thenCalled (leftOf call) order memory work frames out → isMore call ≡ true → (w k : ℕ) → length work ≡ w → length frames ≡ k →
+    afterCarried r m f o ≡ thenCalled (leftOf call) order memory work frames out → isMore call ≡ true →
+    (w k : ℕ) → length work ≡ w → length frames ≡ k →
     (c : AfterCall) → Leads order w k c (afterCarried call memory frames out) → Leads order w k c (afterCarried r m f o)
 leads-next order memory work frames out call r m f o q h w k e l c before =
     record {
       keeps =
           λ memory₀ work₀ frames₀ out₀ e₀ l₀ g.
           subst (Going order memory₀ work₀ frames₀ out₀) (sym q)
-          (going-next order memory₀ work₀ frames₀ out₀ memory work frames out call h (e ∙ e₀) (l ∙ l₀) (before .keeps memory₀ work₀ frames₀ out₀ e₀ l₀ g));
+          (going-next order memory₀ work₀ frames₀ out₀ memory work frames out call h (e ∙ e₀) (l ∙ l₀)
+          (before .keeps memory₀ work₀ frames₀ out₀ e₀ l₀ g));
     }
 
 -- whether a job is left, by the loop's test
@@ -230,17 +232,19 @@ stopped false more test e h w = absurd (false≢true w)
 
 -- ---- what the parts promise, by the call
 module _ (order : List ℕ) (memory work frames : List Float) (out : List ℕ) where
-  pub after-none : (call : Carried) → isMore call ≡ false → afterCarried NoRoom memory frames out ≡ thenCalled (leftOf call) order memory work frames out
+  pub after-none :
+      (call : Carried) → isMore call ≡ false → afterCarried NoRoom memory frames out ≡ thenCalled (leftOf call) order memory work frames out
   after-none NoRoom h = refl
   after-none (Last end) h = refl
   after-none (More end j) h = absurd (false≢true (sym h))
 
   pub after-more :
-      (call : Carried) (end : ℕ) (j : Job) → call ≡ More end j → (c : AfterCall) → c ≡ goOnOf j order memory work frames out →
-      c ≡ thenCalled (leftOf call) order memory work frames out
-  after-more call end j e c q = q ∙ sym (ap (λ (k : Carried). thenCalled (leftOf k) order memory work frames out) e)
+      (call : Carried) (end : ℕ) (j : Job) → call ≡ More end j → (r : Carried) (m f : List Float) (o : List ℕ) →
+      afterCarried r m f o ≡ goOnOf j order memory work frames out → afterCarried r m f o ≡ thenCalled (leftOf call) order memory work frames out
+  after-more call end j e r m f o q = q ∙ sym (ap (λ (k : Carried). thenCalled (leftOf k) order memory work frames out) e)
 
-  pub begun-ends : (r : Carried) (m f : List Float) (o : List ℕ) → afterCarried r m f o ≡ beginOrderOf order memory work frames out → endOf r ≤ length o
+  pub begun-ends :
+      (r : Carried) (m f : List Float) (o : List ℕ) → afterCarried r m f o ≡ beginOrderOf order memory work frames out → endOf r ≤ length o
   begun-ends r m f o q = subst Ends (sym q) (begin-ends order memory work frames out)
 
   pub next-ends :
@@ -248,8 +252,11 @@ module _ (order : List ℕ) (memory work frames : List Float) (out : List ℕ) w
       endOf r ≤ length o
   next-ends call r m f o q = subst Ends (sym q) (then-ends (leftOf call) order memory work frames out)
 
-  -- the first call
-  pub going-first :
-      Lent (length memory) (length work) (length frames) (length out) → (c : AfterCall) → c ≡ beginOrderOf order memory work frames out →
-      Going order memory work frames out c
-  going-first lent c q = subst (Going order memory work frames out) (sym q) (going-begun order memory work frames out lent)
+  -- from begin to a later call
+  pub going-since :
+      Lent (length memory) (length work) (length frames) (length out) → (r : Carried) (m f : List Float) (o : List ℕ) →
+      afterCarried r m f o ≡ beginOrderOf order memory work frames out → (w k : ℕ) (d : AfterCall) → Leads order w k (afterCarried r m f o) d →
+      w ≡ length work → k ≡ length frames → Going order memory work frames out d
+  going-since lent r m f o q w k d leads e l =
+      leads .keeps memory work frames out e l
+      (subst (Going order memory work frames out) (sym q) (going-begun order memory work frames out lent))

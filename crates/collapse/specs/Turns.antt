@@ -14,10 +14,6 @@ use Rattle.run.specs.OrderLines.{lentState, lentWork, lentFrames, linesOf}
 use Rattle.run.specs.CarryOut.{Answered, refusedCall, printed, AfterCall, answeredBy, afterCarried, roomFor, stayed, goOnOf, beginOrderOf}
 use Rattle.run.specs.CarryOutEnds.{nextOf}
 
--- "8: the program's input is above 4,096 bytes": one byte more tells
-abbrev pub lentInput : ℕ
-lentInput = suc 4096
-
 -- "lends for level 7 and 8,192 frame numbers", and room for the lines of any call
 pub record Lent (memory work frames out : ℕ) : Type 0 where
   pub memory-lent : memory ≡ lentState

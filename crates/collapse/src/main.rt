@@ -5,15 +5,17 @@ ghost use mathlib.Core.Bool.{true, _&&_};
 ghost use mathlib.Core.Path.{_≡_};
 ghost use lib.ListN.{length};
 ghost use Rattle.run.specs.CarryOut.{afterCarried};
-ghost use Rattle.collapse.specs.Turns.{lentInput, Lent, isMore, leftOf, endOf, thenCalled, Finished};
-ghost use Rattle.collapse.specs.Input.{Counted};
+ghost use Rattle.collapse.specs.Turns.{Lent, isMore, leftOf, endOf, thenCalled, Finished};
+ghost use Rattle.collapse.specs.Input.{lentInput, Counted};
 use run::carry_out::Carried;
 use run::carry_out::begin_order;
 use run::carry_out::go_on;
 
+// What was read: so many bytes, after which a read put this many more into the buffer, none; or as many as the buffer has.
 enum Input {
     Failed,
-    Bytes(usize),
+    Ended(usize, usize),
+    Full(usize),
 }
 
 // Reads at most one byte more than an order may have.
@@ -22,7 +24,8 @@ fn main() {
     let read = read_input(&mut input);
     match read {
         Input::Failed => os::fail(b"collapse: standard input"),
-        Input::Bytes(count) => answer(&input, count),
+        Input::Ended(count, _) => answer(&input, count),
+        Input::Full(count) => answer(&input, count),
     }
 }
 
@@ -40,11 +43,11 @@ fn read_input(buffer: &mut [u8]) -> Input
         }
         let more = io::count(got, &buffer[count..most]);
         if more == 0 {
-            return Input::Bytes(count);
+            return Input::Ended(count, more);
         }
         count += more;
     }
-    Input::Bytes(count)
+    Input::Full(count)
 }
 
 // Lends for level 7, 8,192 frame numbers and their lines.

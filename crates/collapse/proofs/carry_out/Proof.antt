@@ -6,7 +6,7 @@ use borrow.Author.Needs.{needs}
 use Rattle.run.specs.CarryOut.{afterCarried}
 use Rattle.run.specs.CarryOutEnds.{callsLeft}
 use Rattle.collapse.specs.Turns.{isMore, leftOf}
-use Rattle.collapse.proofs.Turns.{Leads, leads-next, going-first, going-falls, going-ended, begun-ends, next-ends, went, stopped}
+use Rattle.collapse.proofs.Turns.{Leads, leads-next, going-since, going-falls, going-ended, begun-ends, next-ends, went, stopped}
 use Rattle.collapse.proofs.carry_out.Statement.{statement}
 use Rattle.collapse.proofs.carry_out.Tie as tie
 
@@ -23,7 +23,11 @@ write-requires : tie.Need-write-requires Inv-loop μ-loop
 write-requires c κs =
     let b = c .before .before .before .before .before .before .before .before .before .before in
     let a = b .before .before .before .before .before .before .before .before .before .before .args in
-    omega (arith, begun-ends (a .input .now) (a .state .now) (a .work .now) (a .frames .now) (a .out .now) (b .begin-order .result) _ _ _ (b .begin-order .ensures .0))
+    omega (
+      arith,
+      begun-ends (a .input .now) (a .state .now) (a .work .now) (a .frames .now) (a .out .now) (b .begin-order .result) _ _ _
+          (b .begin-order .ensures .0),
+    )
 
 loop-holds : tie.Need-loop-holds Inv-loop μ-loop
 loop-holds c = (refl, refl, refl, refl, record { keeps = λ memory₀ work₀ frames₀ out₀ w f g. g })
@@ -31,8 +35,10 @@ loop-holds c = (refl, refl, refl, refl, record { keeps = λ memory₀ work₀ fr
 write-requires-2 : tie.Need-write-requires-2 Inv-loop μ-loop
 write-requires-2 c κs =
     let n = c .before .before .before .before .before .before .before .before .before .before in
-    let v = n .before .before .before .before .before .before .before .loop in
-    let a = n .before .before .before .before .before .before .before .before .before .before .before .before .before .before .before .before .before .before .before .before .before .before .before .before .before .before .before .before .before .args in
+    let l = n .before .before .before .before .before .before .before in
+    let b = l .before .before .before .before .before .before .before .before .before .before .before .before in
+    let a = b .before .before .before .before .before .before .before .before .before .before .args in
+    let v = l .loop in
     omega (arith, next-ends (a .input .now) (v .state) (v .work) (v .frames) (v .out) (v .call) (n .next-call .result) _ _ _ (n .next-call .ensures))
 
 loop-less : tie.Need-loop-less Inv-loop μ-loop
@@ -43,35 +49,36 @@ loop-less c =
     let b = t .before .before .before .before .before .before .before .before .before .before .before .before .before .before in
     let z = b .before .before .before .before .before .before .before .before .before .before in
     let a = z .args in
-    let h = went (v .written) (isMore (v .call)) _ (t .before .goes-on .ensures) (t .if1 .taken) in
-    let first = going-first (a .input .now) (a .state .now) (a .work .now) (a .frames .now) (a .out .now) (z .pre) _ (b .begin-order .ensures .0) in
-    let going = v .inv .4 .keeps (a .state .now) (a .work .now) (a .frames .now) (a .out .now) (omega arith) (omega arith) first in
-    going-falls (a .input .now) (a .state .now) (a .work .now) (a .frames .now) (a .out .now) (v .state) (v .work) (v .frames) (v .out) (v .call) h (omega arith) going
-    (n .next-call .result) _ _ _ (n .next-call .ensures)
+    let going = going-since (a .input .now) (a .state .now) (a .work .now) (a .frames .now) (a .out .now) (z .pre) (b .begin-order .result) _ _ _
+    (b .begin-order .ensures .0) _ _ _ (v .inv .4) (omega arith) (omega arith) in
+    going-falls (a .input .now) (a .state .now) (a .work .now) (a .frames .now) (a .out .now) (v .state) (v .work) (v .frames) (v .out) (v .call)
+    (went (v .written) (isMore (v .call)) _ (t .before .goes-on .ensures) (t .if1 .taken)) (omega arith) going (n .next-call .result) _ _ _
+    (n .next-call .ensures)
 
 loop-again : tie.Need-loop-again Inv-loop μ-loop
-loop-again c =
-    let n = c .before .before .before .before .before .before .before .before .before .before .before in
-    let t = n .before .before .before .before .before in
-    let v = t .before .before .loop in
-    let a = n .before .before .before .before .before .before .before .before .before .before .before .before .before .before .before .before .before .before .before .before .before .before .before .before .before .before .before .before .before .args in
-    let h = went (v .written) (isMore (v .call)) _ (t .before .goes-on .ensures) (t .if1 .taken) in (
-      omega arith,
-      omega arith,
-      omega arith,
-      omega arith,
-      leads-next (a .input .now) (v .state) (v .work) (v .frames) (v .out) (v .call) (n .next-call .result) _ _ _ (n .next-call .ensures) h _ _ (v .inv .1)
-          (v .inv .2) _ (v .inv .4),
-    )
+loop-again c = (
+  omega arith,
+  omega arith,
+  omega arith,
+  omega arith,
+  let n = c .before .before .before .before .before .before .before .before .before .before .before in
+      let t = n .before .before .before .before .before in
+      let v = t .before .before .loop in
+      let b = t .before .before .before .before .before .before .before .before .before .before .before .before .before .before in
+      let a = b .before .before .before .before .before .before .before .before .before .before .args in
+      leads-next (a .input .now) (v .state) (v .work) (v .frames) (v .out) (v .call) (n .next-call .result) _ _ _ (n .next-call .ensures)
+      (went (v .written) (isMore (v .call)) _ (t .before .goes-on .ensures) (t .if1 .taken)) _ _ (v .inv .1) (v .inv .2) _ (v .inv .4),
+)
 
 returns : tie.Need-returns Inv-loop μ-loop
 returns c =
-    let v = c .before .before .loop in
-    let b = c .before .before .before .before .before .before .before .before .before .before .before .before .before .before in
+    let l = c .before .before in
+    let b = l .before .before .before .before .before .before .before .before .before .before .before .before in
     let z = b .before .before .before .before .before .before .before .before .before .before in
     let a = z .args in
-    let first = going-first (a .input .now) (a .state .now) (a .work .now) (a .frames .now) (a .out .now) (z .pre) _ (b .begin-order .ensures .0) in
-    let going = v .inv .4 .keeps (a .state .now) (a .work .now) (a .frames .now) (a .out .now) (omega arith) (omega arith) first in
+    let v = l .loop in
+    let going = going-since (a .input .now) (a .state .now) (a .work .now) (a .frames .now) (a .out .now) (z .pre) (b .begin-order .result) _ _ _
+    (b .begin-order .ensures .0) _ _ _ (v .inv .4) (omega arith) (omega arith) in
     λ w. going-ended (a .input .now) (a .state .now) (a .work .now) (a .frames .now) (a .out .now) (v .state) (v .work) (v .frames) (v .out) (v .call)
     (stopped (v .written) (isMore (v .call)) _ (c .before .goes-on .ensures) (c .if1 .left) w) going
 

@@ -1,6 +1,6 @@
 -- `collapse::goes_on` meets its contract.
 use borrow.Author.Needs.{needs}
-use mathlib.Core.Bool.{Bool, _&&_, and-true, and-false}
+use mathlib.Core.Bool.{_&&_, and-true, and-false}
 use mathlib.Core.Path.{sym, _∙_, ap}
 use Rattle.run.specs.declared.carry_out.Carried.{Carried}
 use Rattle.collapse.specs.Turns.{isMore}

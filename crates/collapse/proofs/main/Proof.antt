@@ -7,7 +7,11 @@ use Rattle.collapse.proofs.main.Statement.{statement}
 use Rattle.collapse.proofs.main.Tie as tie
 
 answer-requires : tie.Need-answer-requires
-answer-requires c κs = subst (Counted _) (c .before .before .read .given .1) (c .before .before .before .before .before .read-input .ensures)
+answer-requires c κs = subst (Counted _) (c .before .before .read .given .1) (c .before .before .before .before .before .read-input .ensures) .0
+
+answer-requires-2 : tie.Need-answer-requires-2
+answer-requires-2 c κs =
+    let h = subst (Counted _) (c .before .before .read2 .given .1) (c .before .before .before .before .before .read-input .ensures) in omega (arith, h)
 
 pub main-spec : {M : Type 1} → statement M
 main-spec =
@@ -21,5 +25,9 @@ main-spec =
     (λ c. search needs)
     (λ c. search needs)
     answer-requires
+    (λ c. search needs)
+    (λ c. search needs)
+    answer-requires-2
+    (λ c. search needs)
     (λ c. search needs)
     (λ c. search needs))

@@ -21,7 +21,8 @@ returns-3 c =
     let d = c .before .before .before .before .before .before .before .before in
     let m = d .before .before .before .before .before .before in
     let a = m .before .before .before .before .before .before .before .args in
-    after-more (a .input .now) (a .state .now) (a .work .now) (a .frames .now) (a .out .now) (a .call) _ _ (m .call .given .1) _ (d .go-on .ensures .0)
+    after-more (a .input .now) (a .state .now) (a .work .now) (a .frames .now) (a .out .now) (a .call) _ _ (m .call .given .1)
+    (d .go-on .result) _ _ _ (d .go-on .ensures .0)
 
 pub next-call-spec : {M : Type 1} → statement M
 next-call-spec =

@@ -24,6 +24,9 @@ use Rattle.run.specs.OrderLines.{linesOf}
 use Rattle.run.specs.CarryOut.{Turn, advanceTurn, beginTurn, AfterCall, afterCarried, hasRoom, afterTurn, stayed, goOnOf, beginRead, beginOrderOf, printedBy, callsIn}
 use Rattle.run.specs.CarryOutLaws.{order-prints}
 use Rattle.run.specs.CarryOutEnds.{callsLeft, callsOf, nextOf, FairNext, go-on-falls, go-on-fair, begin-fair}
+use Rattle.collapse.specs.declared.Written.{Written}
+use Rattle.collapse.specs.declared.Written.the-variants.{Cut, All}
+use Rattle.collapse.specs.Output.{isAll, Sent, AllOrCut}
 use Rattle.collapse.specs.Turns.{Lent, isMore, leftOf, endIn, endOf, textIn, thenCalled, callAt, textsTo, Finished}
 
 -- ---- of work memory a call uses only the length
@@ -229,6 +232,10 @@ went false more test e h = absurd (false≢true (sym e ∙ h))
 pub stopped : (written more test : Bool) → test ≡ (written && more) → test ≡ false → written ≡ true → more ≡ false
 stopped true more test e h w = sym e ∙ h
 stopped false more test e h w = absurd (false≢true w)
+
+pub all-or-cut : (written : Written) (end : ℕ) (finished : Type 0) → Sent end written → (isAll written ≡ true → finished) → AllOrCut written finished
+all-or-cut (Cut count last) end finished s f = s .1
+all-or-cut (All count) end finished s f = f refl
 
 -- ---- what the parts promise, by the call
 module _ (order : List ℕ) (memory work frames : List Float) (out : List ℕ) where

@@ -1,12 +1,13 @@
 // Carries out the order on standard input: its lines go to standard output. A read or a write that fails ends the program; standard error says
 // which, and a line that was cut has no newline.
 ghost use Prim.Native.Nat.{_≤_};
-ghost use mathlib.Core.Bool.{true, _&&_};
+ghost use mathlib.Core.Bool.{_&&_};
 ghost use mathlib.Core.Path.{_≡_};
 ghost use lib.ListN.{length};
 ghost use Rattle.run.specs.CarryOut.{afterCarried};
 ghost use Rattle.collapse.specs.Turns.{Lent, isMore, leftOf, endOf, thenCalled, Finished};
 ghost use Rattle.collapse.specs.Input.{lentInput, Counted};
+ghost use Rattle.collapse.specs.Output.{isAll, Sent, AllOrCut};
 use run::carry_out::Carried;
 use run::carry_out::begin_order;
 use run::carry_out::go_on;
@@ -16,6 +17,12 @@ enum Input {
     Failed,
     Ended(usize, usize),
     Full(usize),
+}
+
+// What was written: so many bytes, after which a write took this many more, none; or all.
+enum Written {
+    Cut(usize, usize),
+    All(usize),
 }
 
 // Reads at most one byte more than an order may have.
@@ -65,21 +72,21 @@ fn answer(buffer: &[u8], count: usize)
         &mut frames,
         &mut out,
     );
-    if !written {
+    if !is_all(written) {
         os::fail(b"collapse: standard output");
     }
 }
 
-// The whole order, a call at a time; whether all was written.
+// The whole order, a call at a time; what was written of the last one.
 fn carry_out(
     input: &[u8],
     state: &mut [f64],
     work: &mut [f64],
     frames: &mut [f64],
     out: &mut [u8],
-) -> bool
+) -> Written
     requires { ⌜ Lent (length (now state)) (length (now work)) (length (now frames)) (length (now out)) ⌝ }
-    ensures { λ r. ⌜ (r ≡ true → Finished (now (input .entry)) (now (state .entry)) (now (work .entry)) (now (frames .entry)) (now (out .entry)) (now (state .exit)) (now (frames .exit)) (now (out .exit))) ⌝ }
+    ensures { λ r. ⌜ AllOrCut r (Finished (now (input .entry)) (now (state .entry)) (now (work .entry)) (now (frames .entry)) (now (out .entry)) (now (state .exit)) (now (frames .exit)) (now (out .exit))) ⌝ }
 {
     let mut call = begin_order(input, state, work, frames, out);
     let mut written = write(out, end_of(call));
@@ -109,13 +116,22 @@ fn next_call(
 }
 
 // Whether the lines of a call were written and a job is left.
-fn goes_on(written: bool, call: Carried) -> bool
-    ensures { λ r. ⌜ r ≡ (written && isMore call) ⌝ }
+fn goes_on(written: Written, call: Carried) -> bool
+    ensures { λ r. ⌜ r ≡ (isAll written && isMore call) ⌝ }
 {
     match call {
         Carried::NoRoom => false,
         Carried::Last(_) => false,
-        Carried::More(_, _) => written,
+        Carried::More(_, _) => is_all(written),
+    }
+}
+
+fn is_all(written: Written) -> bool
+    ensures { λ r. ⌜ r ≡ isAll written ⌝ }
+{
+    match written {
+        Written::Cut(_, _) => false,
+        Written::All(_) => true,
     }
 }
 
@@ -130,8 +146,19 @@ fn end_of(call: Carried) -> usize
     }
 }
 
-fn write(out: &[u8], end: usize) -> bool
+// Writes the lines that end there.
+fn write(out: &[u8], end: usize) -> Written
     requires { ⌜ end ≤ length (now out) ⌝ }
+    ensures { λ r. ⌜ Sent end r ⌝ }
 {
-    io::write_all(libc::STDOUT_FILENO, &out[0..end])
+    let mut done = 0;
+    while done < end {
+        let put = libc::write(libc::STDOUT_FILENO, &out[done..end]);
+        let taken = io::count(put, &out[done..end]);
+        if taken == 0 {
+            return Written::Cut(done, taken);
+        }
+        done += taken;
+    }
+    Written::All(done)
 }

@@ -26,6 +26,7 @@ answer-spec =
     (λ c. search needs)
     (λ c. search needs)
     carry-out-requires
+    (λ c κs. search needs)
     (λ c. search needs)
     (λ c κs. search needs)
     (λ c. search needs)

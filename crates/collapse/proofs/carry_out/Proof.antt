@@ -1,23 +1,30 @@
 -- `collapse::carry_out` meets its contract.
 use native.Mathlib.Omega.{arith}
-use mathlib.Core.Path.{_≡_, refl}
+use Prim.Native.Nat.{ℕ}
+use mathlib.Core.Path.{_≡_, refl, subst}
 use lib.ListN.{length}
 use borrow.Author.Needs.{needs}
 use Rattle.run.specs.CarryOut.{afterCarried}
 use Rattle.run.specs.CarryOutEnds.{callsLeft}
-use Rattle.collapse.specs.Turns.{isMore, leftOf}
-use Rattle.collapse.proofs.Turns.{Leads, leads-next, going-since, going-falls, going-ended, begun-ends, next-ends, went, stopped}
+use Rattle.collapse.specs.Turns.{isMore, leftOf, endOf}
+use Rattle.collapse.specs.declared.Written.{Written}
+use Rattle.collapse.specs.Output.{isAll, Sent}
+use Rattle.collapse.proofs.Turns.{Leads, leads-next, going-since, going-falls, going-ended, begun-ends, next-ends, went, stopped, all-or-cut}
 use Rattle.collapse.proofs.carry_out.Statement.{statement}
 use Rattle.collapse.proofs.carry_out.Tie as tie
 
--- the lengths stay, and the call is one of the order's
+-- the lengths stay, the call is one of the order's, and its lines were written or cut
 abbrev Inv-loop : tie.InvT-loop
 Inv-loop input state₀ work₀ frames₀ out₀ call₀ written₀ state work frames out call written =
     (length state ≡ length state₀) × (length work ≡ length work₀) × (length frames ≡ length frames₀) × (length out ≡ length out₀)
     × Leads input (length work₀) (length frames₀) (afterCarried call₀ state₀ frames₀ out₀) (afterCarried call state frames out)
+    × Sent (endOf call) written
 
 abbrev μ-loop : tie.MeasureT-loop
 μ-loop input state₀ work₀ frames₀ out₀ call₀ written₀ state work frames out call written = callsLeft input (leftOf call)
+
+sent : (w : Written) {end stop : ℕ} → end ≡ stop → Sent end w → Sent stop w
+sent w e = subst (λ (k : ℕ). Sent k w) e
 
 write-requires : tie.Need-write-requires Inv-loop μ-loop
 write-requires c κs =
@@ -30,7 +37,7 @@ write-requires c κs =
     )
 
 loop-holds : tie.Need-loop-holds Inv-loop μ-loop
-loop-holds c = (refl, refl, refl, refl, record { keeps = λ memory₀ work₀ frames₀ out₀ w f g. g })
+loop-holds c = (refl, refl, refl, refl, record { keeps = λ memory₀ work₀ frames₀ out₀ w f g. g }, sent (c .write .result) (c .before .end-of .ensures) (c .write .ensures))
 
 write-requires-2 : tie.Need-write-requires-2 Inv-loop μ-loop
 write-requires-2 c κs =
@@ -52,7 +59,7 @@ loop-less c =
     let going = going-since (a .input .now) (a .state .now) (a .work .now) (a .frames .now) (a .out .now) (z .pre) (b .begin-order .result) _ _ _
     (b .begin-order .ensures .0) _ _ _ (v .inv .4) (omega arith) (omega arith) in
     going-falls (a .input .now) (a .state .now) (a .work .now) (a .frames .now) (a .out .now) (v .state) (v .work) (v .frames) (v .out) (v .call)
-    (went (v .written) (isMore (v .call)) _ (t .before .goes-on .ensures) (t .if1 .taken)) (omega arith) going (n .next-call .result) _ _ _
+    (went (isAll (v .written)) (isMore (v .call)) _ (t .before .goes-on .ensures) (t .if1 .taken)) (omega arith) going (n .next-call .result) _ _ _
     (n .next-call .ensures)
 
 loop-again : tie.Need-loop-again Inv-loop μ-loop
@@ -67,7 +74,8 @@ loop-again c = (
       let b = t .before .before .before .before .before .before .before .before .before .before .before .before .before .before in
       let a = b .before .before .before .before .before .before .before .before .before .before .args in
       leads-next (a .input .now) (v .state) (v .work) (v .frames) (v .out) (v .call) (n .next-call .result) _ _ _ (n .next-call .ensures)
-      (went (v .written) (isMore (v .call)) _ (t .before .goes-on .ensures) (t .if1 .taken)) _ _ (v .inv .1) (v .inv .2) _ (v .inv .4),
+      (went (isAll (v .written)) (isMore (v .call)) _ (t .before .goes-on .ensures) (t .if1 .taken)) _ _ (v .inv .1) (v .inv .2) _ (v .inv .4),
+  sent (c .write2 .result) (c .before .end-of2 .ensures) (c .write2 .ensures),
 )
 
 returns : tie.Need-returns Inv-loop μ-loop
@@ -79,8 +87,9 @@ returns c =
     let v = l .loop in
     let going = going-since (a .input .now) (a .state .now) (a .work .now) (a .frames .now) (a .out .now) (z .pre) (b .begin-order .result) _ _ _
     (b .begin-order .ensures .0) _ _ _ (v .inv .4) (omega arith) (omega arith) in
-    λ w. going-ended (a .input .now) (a .state .now) (a .work .now) (a .frames .now) (a .out .now) (v .state) (v .work) (v .frames) (v .out) (v .call)
-    (stopped (v .written) (isMore (v .call)) _ (c .before .goes-on .ensures) (c .if1 .left) w) going
+    all-or-cut (v .written) _ _ (v .inv .5)
+    (λ w. going-ended (a .input .now) (a .state .now) (a .work .now) (a .frames .now) (a .out .now) (v .state) (v .work) (v .frames) (v .out) (v .call)
+    (stopped (isAll (v .written)) (isMore (v .call)) _ (c .before .goes-on .ensures) (c .if1 .left) w) going)
 
 pub carry-out-spec : {M : Type 1} → statement M
 carry-out-spec =

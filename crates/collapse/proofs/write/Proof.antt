@@ -1,0 +1,33 @@
+-- `collapse::write` meets its contract.
+use Prim.Native.Nat.{_-_, _≤_}
+use lib.ListN.{length}
+use borrow.Author.Needs.{needs}
+use Rattle.collapse.proofs.write.Statement.{statement}
+use Rattle.collapse.proofs.write.Tie as tie
+
+abbrev Inv-loop : tie.InvT-loop
+Inv-loop out end done₀ done = (end ≤ length out) × (done ≤ end)
+
+abbrev μ-loop : tie.MeasureT-loop
+μ-loop out end done₀ done = end - done
+
+pub write-spec : {M : Type 1} → statement M
+write-spec =
+    tie.close
+    (tie.spec
+    Inv-loop
+    μ-loop
+    (λ c. search needs)
+    (λ c. search needs)
+    (λ c. search needs)
+    (λ c. search needs)
+    (λ c κs. search needs)
+    (λ c. search needs)
+    (λ c. search needs)
+    (λ c. search needs)
+    (λ c κs. search needs)
+    (λ c. search needs)
+    (λ c. search needs)
+    (λ c. search needs)
+    (λ c. search needs)
+    (λ c. search needs))

@@ -25,9 +25,8 @@ use Rattle.run.specs.CarryOut.{Turn, advanceTurn, beginTurn, AfterCall, afterCa
 use Rattle.run.specs.CarryOutLaws.{order-prints}
 use Rattle.run.specs.CarryOutEnds.{callsLeft, callsOf, nextOf, FairNext, go-on-falls, go-on-fair, begin-fair}
 use Rattle.collapse.specs.declared.Written.{Written}
-use Rattle.collapse.specs.declared.Written.the-variants.{Cut, All}
-use Rattle.collapse.specs.Output.{isAll, Sent, AllOrCut}
-use Rattle.collapse.specs.Turns.{Lent, isMore, leftOf, endIn, endOf, textIn, thenCalled, callAt, textsTo, Finished}
+use Rattle.collapse.specs.Output.{isAll, Sent}
+use Rattle.collapse.specs.Turns.{Lent, isMore, leftOf, endIn, endOf, textIn, thenCalled, callAt, textsTo, CarriedOut}
 
 -- ---- of work memory a call uses only the length
 advance-work :
@@ -175,19 +174,22 @@ module _ (order : List ℕ) (memory work frames : List Float) (out : List ℕ) w
     none-left (More end j) h = absurd (false≢true (sym h))
 
     pub going-ended :
-        (call : Carried) → isMore call ≡ false → Going (afterCarried call memory′ frames′ out′) →
-        Finished order memory work frames out memory′ frames′ out′
+        (call : Carried) → Going (afterCarried call memory′ frames′ out′) →
+        (written : Written) → Sent (endOf call) written → (isAll written ≡ true → isMore call ≡ false) →
+        CarriedOut order memory work frames out memory′ frames′ out′ written
     unfolding textsTo
-    going-ended call h g =
+    going-ended call g written s h =
         let t = textsTo order work begun (g .calls) in
         record {
           calls = g .calls;
           last = call;
           is = g .is;
-          ends = none-left call h;
+          sent = s;
+          ends = λ w. none-left call (h w);
           prints =
+              λ w.
               ap (λ (b : AfterCall). t ++ textIn b) (sym (g .is))
-              ∙ ap (λ (x : List ℕ). t ++ x) (sym (printed-last (g .behind) call h))
+              ∙ ap (λ (x : List ℕ). t ++ x) (sym (printed-last (g .behind) call (h w)))
               ∙ g .owed;
         }
 
@@ -232,10 +234,6 @@ went false more test e h = absurd (false≢true (sym e ∙ h))
 pub stopped : (written more test : Bool) → test ≡ (written && more) → test ≡ false → written ≡ true → more ≡ false
 stopped true more test e h w = sym e ∙ h
 stopped false more test e h w = absurd (false≢true w)
-
-pub all-or-cut : (written : Written) (end : ℕ) (finished : Type 0) → Sent end written → (isAll written ≡ true → finished) → AllOrCut written finished
-all-or-cut (Cut count last) end finished s f = s .1
-all-or-cut (All count) end finished s f = f refl
 
 -- ---- what the parts promise, by the call
 module _ (order : List ℕ) (memory work frames : List Float) (out : List ℕ) where

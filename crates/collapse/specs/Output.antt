@@ -13,8 +13,3 @@ isAll (All done) = true
 abbrev pub Sent : (end : ℕ) → Written → Type 0
 Sent end (Cut done last) = (done < end) × (last ≡ 0)
 Sent end (All done) = done ≡ end
-
--- all was written, and this is so; or a write took nothing more
-abbrev pub AllOrCut : Written → Type 0 → Type 0
-AllOrCut (Cut done last) finished = last ≡ 0
-AllOrCut (All done) finished = finished

@@ -13,6 +13,8 @@ use Rattle.run.specs.Lines.{textsOf}
 use Rattle.run.specs.OrderLines.{lentState, lentWork, lentFrames, linesOf}
 use Rattle.run.specs.CarryOut.{Answered, refusedCall, printed, AfterCall, answeredBy, afterCarried, roomFor, stayed, goOnOf, beginOrderOf}
 use Rattle.run.specs.CarryOutEnds.{nextOf}
+use Rattle.collapse.specs.declared.Written.{Written}
+use Rattle.collapse.specs.Output.{isAll, Sent}
 
 -- "lends for level 7 and 8,192 frame numbers", and room for the lines of any call
 pub record Lent (memory work frames out : ℕ) : Type 0 where
@@ -61,10 +63,14 @@ module _ (order : List ℕ) (work : List Float) (begun : AfterCall) where
   textsTo (suc k) = textsTo k ++ textIn (callAt k)
 
 -- ---- the whole order
--- the memories are as the last of these calls left them, no job is left, and the lines of the calls are those of the order
-pub record Finished (order : List ℕ) (memory work frames : List Float) (out : List ℕ) (memory′ frames′ : List Float) (out′ : List ℕ) : Type 0 where
+-- The memories are as the last of these calls left them, and its lines were written to their end or until a write took nothing. If to their end,
+-- no job is left, and the lines of the calls are those of the order.
+pub record CarriedOut
+    (order : List ℕ) (memory work frames : List Float) (out : List ℕ) (memory′ frames′ : List Float) (out′ : List ℕ) (written : Written)
+    : Type 0 where
   pub calls : ℕ
   pub last : Carried
   pub is : afterCarried last memory′ frames′ out′ ≡ callAt order work (beginOrderOf order memory work frames out) calls
-  pub ends : leftOf last ≡ none
-  pub prints : textsTo order work (beginOrderOf order memory work frames out) (suc calls) ≡ textsOf (linesOf order)
+  pub sent : Sent (endOf last) written
+  pub ends : isAll written ≡ true → leftOf last ≡ none
+  pub prints : isAll written ≡ true → textsTo order work (beginOrderOf order memory work frames out) (suc calls) ≡ textsOf (linesOf order)

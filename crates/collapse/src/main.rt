@@ -5,9 +5,9 @@ ghost use mathlib.Core.Bool.{_&&_};
 ghost use mathlib.Core.Path.{_≡_};
 ghost use lib.ListN.{length};
 ghost use Rattle.run.specs.CarryOut.{afterCarried};
-ghost use Rattle.collapse.specs.Turns.{Lent, isMore, leftOf, endOf, thenCalled, Finished};
+ghost use Rattle.collapse.specs.Turns.{Lent, isMore, leftOf, endOf, thenCalled, CarriedOut};
 ghost use Rattle.collapse.specs.Input.{lentInput, Counted};
-ghost use Rattle.collapse.specs.Output.{isAll, Sent, AllOrCut};
+ghost use Rattle.collapse.specs.Output.{isAll, Sent};
 use run::carry_out::Carried;
 use run::carry_out::begin_order;
 use run::carry_out::go_on;
@@ -86,7 +86,7 @@ fn carry_out(
     out: &mut [u8],
 ) -> Written
     requires { ⌜ Lent (length (now state)) (length (now work)) (length (now frames)) (length (now out)) ⌝ }
-    ensures { λ r. ⌜ AllOrCut r (Finished (now (input .entry)) (now (state .entry)) (now (work .entry)) (now (frames .entry)) (now (out .entry)) (now (state .exit)) (now (frames .exit)) (now (out .exit))) ⌝ }
+    ensures { λ r. ⌜ CarriedOut (now (input .entry)) (now (state .entry)) (now (work .entry)) (now (frames .entry)) (now (out .entry)) (now (state .exit)) (now (frames .exit)) (now (out .exit)) r ⌝ }
 {
     let mut call = begin_order(input, state, work, frames, out);
     let mut written = write(out, end_of(call));

@@ -9,7 +9,7 @@ use Rattle.run.specs.CarryOutEnds.{callsLeft}
 use Rattle.collapse.specs.Turns.{isMore, leftOf, endOf}
 use Rattle.collapse.specs.declared.Written.{Written}
 use Rattle.collapse.specs.Output.{isAll, Sent}
-use Rattle.collapse.proofs.Turns.{Leads, leads-next, going-since, going-falls, going-ended, begun-ends, next-ends, went, stopped, all-or-cut}
+use Rattle.collapse.proofs.Turns.{Leads, leads-next, going-since, going-falls, going-ended, begun-ends, next-ends, went, stopped}
 use Rattle.collapse.proofs.carry_out.Statement.{statement}
 use Rattle.collapse.proofs.carry_out.Tie as tie
 
@@ -23,6 +23,7 @@ Inv-loop input state₀ work₀ frames₀ out₀ call₀ written₀ state work f
 abbrev μ-loop : tie.MeasureT-loop
 μ-loop input state₀ work₀ frames₀ out₀ call₀ written₀ state work frames out call written = callsLeft input (leftOf call)
 
+-- what was written, by where the call's lines end
 sent : (w : Written) {end stop : ℕ} → end ≡ stop → Sent end w → Sent stop w
 sent w e = subst (λ (k : ℕ). Sent k w) e
 
@@ -37,7 +38,14 @@ write-requires c κs =
     )
 
 loop-holds : tie.Need-loop-holds Inv-loop μ-loop
-loop-holds c = (refl, refl, refl, refl, record { keeps = λ memory₀ work₀ frames₀ out₀ w f g. g }, sent (c .write .result) (c .before .end-of .ensures) (c .write .ensures))
+loop-holds c = (
+  refl,
+  refl,
+  refl,
+  refl,
+  record { keeps = λ memory₀ work₀ frames₀ out₀ w f g. g },
+  sent (c .write .result) (c .before .end-of .ensures) (c .write .ensures),
+)
 
 write-requires-2 : tie.Need-write-requires-2 Inv-loop μ-loop
 write-requires-2 c κs =
@@ -87,9 +95,8 @@ returns c =
     let v = l .loop in
     let going = going-since (a .input .now) (a .state .now) (a .work .now) (a .frames .now) (a .out .now) (z .pre) (b .begin-order .result) _ _ _
     (b .begin-order .ensures .0) _ _ _ (v .inv .4) (omega arith) (omega arith) in
-    all-or-cut (v .written) _ _ (v .inv .5)
-    (λ w. going-ended (a .input .now) (a .state .now) (a .work .now) (a .frames .now) (a .out .now) (v .state) (v .work) (v .frames) (v .out) (v .call)
-    (stopped (isAll (v .written)) (isMore (v .call)) _ (c .before .goes-on .ensures) (c .if1 .left) w) going)
+    going-ended (a .input .now) (a .state .now) (a .work .now) (a .frames .now) (a .out .now) (v .state) (v .work) (v .frames) (v .out) (v .call)
+    going (v .written) (v .inv .5) (stopped (isAll (v .written)) (isMore (v .call)) _ (c .before .goes-on .ensures) (c .if1 .left))
 
 pub carry-out-spec : {M : Type 1} → statement M
 carry-out-spec =

@@ -187,11 +187,11 @@ module _ (s : Settings) (memory₀ : List Float) where
           same-short = ap (λ (k : ℕ). tooShort s k (length (c .work))) lent-length
 
           enough : tooShort s (length lent) (length (c .work)) ≡ false → cellCount s ≤ length lent
-          enough h = first (ltb (length lent) (cellCount s)) (ltb (length (c .work)) (workCount s)) (ltb-false (length lent) (cellCount s)) h
+          enough h = by-left (ltb (length lent) (cellCount s)) (ltb (length (c .work)) (workCount s)) (ltb-false (length lent) (cellCount s)) h
             where
-              first : (x y : Bool) → (x ≡ false → cellCount s ≤ length lent) → (x || y) ≡ false → cellCount s ≤ length lent
-              first true y f e = absurd (true≢false e)
-              first false y f e = f refl
+              by-left : (x y : Bool) → (x ≡ false → cellCount s ≤ length lent) → (x || y) ≡ false → cellCount s ≤ length lent
+              by-left true y f e = absurd (true≢false e)
+              by-left false y f e = f refl
 
           later :
               (b : Bool) → tooShort s (length lent) (length (c .work)) ≡ false →

@@ -399,7 +399,7 @@ complete-all p e =
 pub read-settings : (s : List ℕ) (set : Settings) (p : Places) → readOrder s ≡ Order set p → Operands s set p
 unfolding settingsAt
 read-settings s set p e =
-    let h = accepted-ends s (SoFar s) (soFar-kept s) first set p e in
+    let h = accepted-ends s (SoFar s) (soFar-kept s) none-came set p e in
     let r = h .kept in
     let came = complete-all p (r .all (h .started)) in
     rw (h .settings)
@@ -412,8 +412,8 @@ read-settings s set p e =
       skip = r .skip (came .skip);
     })
   where
-    first : SoFar s noPlaces 0
-    first =
+    none-came : SoFar s noPlaces 0
+    none-came =
         record {
           amplitude = λ z. absurd (omega arith);
           level = λ z. absurd (omega arith);

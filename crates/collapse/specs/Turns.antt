@@ -74,3 +74,14 @@ pub record CarriedOut
   pub sent : Sent (endOf last) written
   pub ends : isAll written ≡ true → leftOf last ≡ none
   pub prints : isAll written ≡ true → textsTo order work (beginOrderOf order memory work frames out) (suc calls) ≡ textsOf (linesOf order)
+
+-- the same, in memories that the caller does not see
+pub record Answers (order : List ℕ) (written : Written) : Type 0 where
+  pub memory : List Float
+  pub work : List Float
+  pub frames : List Float
+  pub out : List ℕ
+  pub memory′ : List Float
+  pub frames′ : List Float
+  pub out′ : List ℕ
+  pub carried : CarriedOut order memory work frames out memory′ frames′ out′ written

@@ -3,9 +3,9 @@
 ghost use Prim.Native.Nat.{_≤_};
 ghost use mathlib.Core.Bool.{_&&_};
 ghost use mathlib.Core.Path.{_≡_};
-ghost use lib.ListN.{length};
+ghost use lib.ListN.{length, take};
 ghost use Rattle.run.specs.CarryOut.{afterCarried};
-ghost use Rattle.collapse.specs.Turns.{Lent, isMore, leftOf, endOf, thenCalled, CarriedOut};
+ghost use Rattle.collapse.specs.Turns.{Lent, isMore, leftOf, endOf, thenCalled, CarriedOut, Answers};
 ghost use Rattle.collapse.specs.Input.{lentInput, Counted};
 ghost use Rattle.collapse.specs.Output.{isAll, Sent};
 use run::carry_out::Carried;
@@ -31,8 +31,8 @@ fn main() {
     let read = read_input(&mut input);
     match read {
         Input::Failed => os::fail(b"collapse: standard input"),
-        Input::Ended(count, _) => answer(&input, count),
-        Input::Full(count) => answer(&input, count),
+        Input::Ended(count, _) => report(answer(&input, count)),
+        Input::Full(count) => report(answer(&input, count)),
     }
 }
 
@@ -57,21 +57,26 @@ fn read_input(buffer: &mut [u8]) -> Input
     Input::Full(count)
 }
 
-// Lends for level 7, 8,192 frame numbers and their lines.
-fn answer(buffer: &[u8], count: usize)
+// Carries out the order in the first count bytes: lends for level 7, 8,192 frame numbers and their lines.
+fn answer(buffer: &[u8], count: usize) -> Written
     requires { ⌜ count ≤ length (now buffer) ⌝ }
+    ensures { λ r. ⌜ Answers (take count (now (buffer .entry))) r ⌝ }
 {
     let mut state = [0.0; 1032];
     let mut work = [0.0; 5160];
     let mut frames = [0.0; 8192];
     let mut out = [0u8; 147520];
-    let written = carry_out(
+    carry_out(
         &buffer[0..count],
         &mut state,
         &mut work,
         &mut frames,
         &mut out,
-    );
+    )
+}
+
+// Standard error says where a write took nothing.
+fn report(written: Written) {
     if !is_all(written) {
         os::fail(b"collapse: standard output");
     }

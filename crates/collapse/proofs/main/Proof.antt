@@ -25,9 +25,11 @@ main-spec =
     (λ c. search needs)
     (λ c. search needs)
     answer-requires
+    (λ c κs. search needs)
     (λ c. search needs)
     (λ c. search needs)
     answer-requires-2
+    (λ c κs. search needs)
     (λ c. search needs)
     (λ c. search needs)
     (λ c. search needs))

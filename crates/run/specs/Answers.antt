@@ -20,11 +20,14 @@ use Rattle.run.specs.declared.simulate.Advanced.{Advanced}
 use Rattle.run.specs.declared.simulate.Begun.{Begun}
 use Rattle.run.specs.declared.simulate.Begun.the-variants as begun
 use Rattle.run.specs.declared.simulate.Live.{Live}
+use Rattle.run.specs.declared.skip_run.Ran as ran-type
+use Rattle.run.specs.declared.skip_run.Ran.the-variants as ran-to
 use Rattle.run.specs.Model.{faultAt, cellCount, workCount, frameCount, stateIn, deltaNext, framesNext}
 use Rattle.run.specs.Outcome.{collapse, broke, timeout, spent}
 use Rattle.run.specs.PlainRun.{Machine, hasEnded, attempt}
 use Rattle.run.specs.Tally.{Reply, refused, full, ran}
 use Rattle.run.specs.Calls.{Began, refusedBegin, accepted, AfterBegin, AfterAdvance, recordOf, machineOf, withState}
+use Rattle.run.specs.SkipRun.{Ran, notBegun, notRun, ranTo}
 
 -- 01's number where a call is refused
 abbrev pub refusalOf : Verdict → Option ℕ
@@ -44,6 +47,15 @@ replyOf (answer.Spent k) = ran spent k
 abbrev pub beganOf : Begun → Began
 beganOf (begun.Refused n) = refusedBegin n
 beganOf (begun.Accepted r k) = accepted r k
+
+-- and of a skip run by one begin and one advance
+abbrev pub ranOf : ran-type.Ran → Ran
+ranOf (ran-to.NotBegun n) = notBegun n
+ranOf (ran-to.Refused n) = notRun n
+ranOf (ran-to.Collapse m k t) = ranTo (collapse m) k t
+ranOf (ran-to.Broken k t) = ranTo broke k t
+ranOf (ran-to.Timeout k t) = ranTo timeout k t
+ranOf (ran-to.Spent k t) = ranTo spent k t
 
 -- what a call answered, with state and frame memory as it left them
 abbrev pub afterBegin : Begun → (memory frames : List Float) → AfterBegin

@@ -32,6 +32,8 @@ pub mod PlainRun
 pub mod PlainRunLaws
 pub mod Report
 pub mod ReportLaws
+pub mod SkipRun
+pub mod SkipRunLaws
 pub mod SkippedRun
 pub mod Tally
 pub mod WriteLaws

@@ -8,5 +8,6 @@ pub mod report;
 pub mod settings;
 pub mod simulate;
 pub mod simulation_inputs;
+pub mod skip_run;
 pub mod state_output_builder;
 mod text;

@@ -1,0 +1,24 @@
+-- The ends of the half that remains.
+use Prim.Native.Nat.{ℕ, _+_, _-_, _≤_, _<_}
+use mathlib.Core.Path.{_≡_}
+use native.Mathlib.Omega.{arith}
+use Rattle.threshold.specs.Halving.{middle}
+use Rattle.threshold.specs.Search.{Ends}
+
+pub positive : {n : ℕ} → (n ≡ 0 → ⊥) → 0 < n
+positive h = omega arith
+
+-- the middle lies between ends that differ by more than 1
+pub between : {low high : ℕ} → low < high → (high - low ≡ 1 → ⊥) → (low < middle low high) × (middle low high < high)
+between {low} {high} h n = let w = wide (high - low) (omega arith) n in (omega arith, omega arith)
+  where
+    wide : (d : ℕ) → 1 ≤ d → (d ≡ 1 → ⊥) → 2 ≤ d
+    wide d h n = omega arith
+
+pub next-ends :
+    {low high left made t : ℕ} → Ends low high left made → left ≡ t → 0 < left → (l h : ℕ) → l < h → h ≤ high →
+    (left - 1 < t) × Ends l h (left - 1) (made + 1)
+next-ends p m some-left l h o b =
+    let s = p .small in
+    let f = p .few in
+    (omega arith, record { ordered = o; small = omega arith; few = omega arith })

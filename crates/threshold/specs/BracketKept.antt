@@ -20,23 +20,27 @@ use Rattle.threshold.specs.Halving.{Side, timesOut, collapses, neither, 
 use Rattle.threshold.specs.HalvingLaws.{Kept, kept, gap-halved}
 use Rattle.threshold.specs.Search.{amplitudeAt, sideOf, isTimeout, isCollapse, begunRefusal, endsRefusal, refusedSearch, found, sideAt, soughtOf, searchOf}
 
--- ---- an answer that says timeout or collapse is the plain run's
+-- ---- what a run that answers timeout or collapse is
 module _ (k : ℕ) (time : Float) where
-  is-timeout : (o : Option ℕ) (b : Bool) (x : Outcome) → sideOf (option o notBegun (cond b (notRun 14) (ranTo x k time))) ≡ timesOut → x ≡ timeout
-  is-timeout (some n) b x e = let z : _≡_ {A = ℕ} 0 1 = cc in absurd (omega arith)
-  is-timeout none true x e = let z : _≡_ {A = ℕ} 0 1 = cc in absurd (omega arith)
-  is-timeout none false (collapse m) e = let z : _≡_ {A = ℕ} 0 1 = cc in absurd (omega arith)
-  is-timeout none false broke e = let z : _≡_ {A = ℕ} 0 1 = cc in absurd (omega arith)
-  is-timeout none false timeout e = refl
-  is-timeout none false spent e = let z : _≡_ {A = ℕ} 0 1 = cc in absurd (omega arith)
+  -- it is not refused
+  walked :
+      (o : Option ℕ) (b : Bool) (x : Outcome) (r : Side) → ((n : ℕ) → refusedRun n ≡ r → ⊥) →
+      sideOf (option o notBegun (cond b (notRun 14) (ranTo x k time))) ≡ r → (o ≡ none) × ((b ≡ false) × (sideOf (ranTo x k time) ≡ r))
+  walked (some n) b x r p e = absurd (p n e)
+  walked none true x r p e = absurd (p 14 e)
+  walked none false x r p e = (refl, (refl, e))
 
-  is-collapse : (o : Option ℕ) (b : Bool) (x : Outcome) → sideOf (option o notBegun (cond b (notRun 14) (ranTo x k time))) ≡ collapses → (m : Float) × (x ≡ collapse m)
-  is-collapse (some n) b x e = let z : _≡_ {A = ℕ} 0 1 = cc in absurd (omega arith)
-  is-collapse none true x e = let z : _≡_ {A = ℕ} 0 1 = cc in absurd (omega arith)
-  is-collapse none false (collapse m) e = (m, refl)
-  is-collapse none false broke e = let z : _≡_ {A = ℕ} 0 1 = cc in absurd (omega arith)
-  is-collapse none false timeout e = let z : _≡_ {A = ℕ} 0 1 = cc in absurd (omega arith)
-  is-collapse none false spent e = let z : _≡_ {A = ℕ} 0 1 = cc in absurd (omega arith)
+  is-timeout : (x : Outcome) → sideOf (ranTo x k time) ≡ timesOut → x ≡ timeout
+  is-timeout (collapse m) e = let z : _≡_ {A = ℕ} 0 1 = cc in absurd (omega arith)
+  is-timeout broke e = let z : _≡_ {A = ℕ} 0 1 = cc in absurd (omega arith)
+  is-timeout timeout e = refl
+  is-timeout spent e = let z : _≡_ {A = ℕ} 0 1 = cc in absurd (omega arith)
+
+  is-collapse : (x : Outcome) → sideOf (ranTo x k time) ≡ collapses → (m : Float) × (x ≡ collapse m)
+  is-collapse (collapse m) e = (m, refl)
+  is-collapse broke e = let z : _≡_ {A = ℕ} 0 1 = cc in absurd (omega arith)
+  is-collapse timeout e = let z : _≡_ {A = ℕ} 0 1 = cc in absurd (omega arith)
+  is-collapse spent e = let z : _≡_ {A = ℕ} 0 1 = cc in absurd (omega arith)
 
 -- the runs of the ends
 ends-run : (o p : Option ℕ) (x y : Side) → _≡_ {A = Option ℕ} (option o some (option p some (cond (isTimeout x && isCollapse y) none (some 16)))) none → (x ≡ timesOut) × (y ≡ collapses)
@@ -51,24 +55,36 @@ ends-run none none neither y e = absurd (some-not-none 16 e)
 ends-run none none (refusedRun n) y e = absurd (some-not-none 16 e)
 
 module _ (unit : Float) (s : Settings) (budget state work : ℕ) where
-  -- the outcome of the plain run at so many units
-  abbrev pub outcomeAt : ℕ → Outcome
-  outcomeAt u = let t = skipping s (amplitudeAt unit u) in outcomeOf t (plainRun t budget)
+  -- the plain run's outcome at so many units
+  abbrev pub at : ℕ → Settings
+  at u = skipping s (amplitudeAt unit u)
 
-  abbrev run : ℕ → Side
+  abbrev pub outcomeAt : ℕ → Outcome
+  outcomeAt u = outcomeOf (at u) (plainRun (at u) budget)
+
+  abbrev pub run : ℕ → Side
   run = sideAt unit s budget state work
 
-  plain-timeout : (u : ℕ) → run u ≡ timesOut → outcomeAt u ≡ timeout
+  pub run-walked :
+      (u : ℕ) (r : Side) → ((n : ℕ) → refusedRun n ≡ r → ⊥) → run u ≡ r →
+      (beginRefusal (at u) state work 0 ≡ none)
+      × ((tooMany (hasEnded (at u) (start (at u))) 0 budget ≡ false)
+      × (sideOf (ranTo (outcomeAt u) (plainRun (at u) budget .steps) (plainRun (at u) budget .state .time)) ≡ r))
   unfolding sideAt ranAt
-  plain-timeout u e =
-      let t = skipping s (amplitudeAt unit u) in
-      is-timeout (plainRun t budget .steps) (plainRun t budget .state .time) (beginRefusal t state work 0) (tooMany (hasEnded t (start t)) 0 budget) (outcomeAt u) e
+  run-walked u r p e =
+      walked (plainRun (at u) budget .steps) (plainRun (at u) budget .state .time) (beginRefusal (at u) state work 0)
+      (tooMany (hasEnded (at u) (start (at u))) 0 budget) (outcomeAt u) r p e
+
+  pub timeout-walked : (u : ℕ) → run u ≡ timesOut →
+      (beginRefusal (at u) state work 0 ≡ none) × ((tooMany (hasEnded (at u) (start (at u))) 0 budget ≡ false) × (outcomeAt u ≡ timeout))
+  timeout-walked u e =
+      let w = run-walked u timesOut (λ n q. let z : _≡_ {A = ℕ} 0 1 = cc in absurd (omega arith)) e in
+      (w .0, (w .1 .0, is-timeout (plainRun (at u) budget .steps) (plainRun (at u) budget .state .time) (outcomeAt u) (w .1 .1)))
 
   plain-collapse : (u : ℕ) → run u ≡ collapses → (m : Float) × (outcomeAt u ≡ collapse m)
-  unfolding sideAt ranAt
   plain-collapse u e =
-      let t = skipping s (amplitudeAt unit u) in
-      is-collapse (plainRun t budget .steps) (plainRun t budget .state .time) (beginRefusal t state work 0) (tooMany (hasEnded t (start t)) 0 budget) (outcomeAt u) e
+      let w = run-walked u collapses (λ n q. let z : _≡_ {A = ℕ} 0 1 = cc in absurd (omega arith)) e in
+      is-collapse (plainRun (at u) budget .steps) (plainRun (at u) budget .state .time) (outcomeAt u) (w .1 .1)
 
   -- what every accepted search keeps
   pub record BracketKept (low high halvings : ℕ) (b : Bracket) : Type 0 where
@@ -113,7 +129,7 @@ module _ (unit : Float) (s : Settings) (budget state work : ℕ) where
             let h = g refl in
             record { order = f refl; low-side = h .0; high-side = h .1; is = sym i }
 
-    keeps : Kept run low high halvings 0 b
+    pub keeps : Kept run low high halvings 0 b
     keeps =
         let a = accepted in
         subst (Kept run low high halvings 0) (sym (a .is)) (kept run halvings 0 low high (a .order) (a .low-side) (a .high-side))
@@ -127,7 +143,7 @@ module _ (unit : Float) (s : Settings) (budget state work : ℕ) where
           ordered = k .ordered;
           above = k .above;
           below = k .below;
-          low-run = plain-timeout (b .low) (k .low-run);
+          low-run = timeout-walked (b .low) (k .low-run) .1 .1;
           high-run = plain-collapse (b .high) (k .high-run);
           few = omega (arith, k .at-most);
           used-exactly = (λ q. k .when-used q ∙ all, λ q. k .all-made (q ∙ sym all));

@@ -1,5 +1,5 @@
--- No number stands for two answers: a refusal that 01 has carries the number that 01 lists for its call, and the numbers of our own are no
--- document's: all of them are at least 100. Below the number of full an answer is a refusal, or begin's 0.
+-- No number stands for two answers: a refusal that 01 or 02 has carries the number that they list for its call, and the numbers of our own
+-- are no document's: all of them are at least 100. Below the number of full an answer is a refusal, or the 0 of begin and of the search.
 use mathlib.Core.Path.{_≡_, refl}
 use mathlib.Core.Bool.{Bool, true, false, cond, not, _||_, _&&_, false≢true}
 use mathlib.Core.List.{List, [], _∷_, _++_}
@@ -15,8 +15,10 @@ use Rattle.run.specs.Tally.{refused, full, ran}
 use Rattle.run.specs.declared.settings.Settings.{Settings}
 use Rattle.run.specs.declared.settings.Record.{Record}
 use Rattle.run.specs.Report.{noRoomForText}
-use Rattle.claims.specs.RefusalNumbers.{among, refusalAmong, among-longer, beginRefusals, advanceRefusals, begin-refusals, advance-refusals}
+use Rattle.threshold.specs.Search.{Sought, refusedSearch, found, searchOf}
+use Rattle.claims.specs.RefusalNumbers.{among, refusalAmong, among-longer, beginRefusals, advanceRefusals, searchRefusals, soughtRefusal, begin-refusals, advance-refusals, search-refusals}
 use Rattle.capi.specs.Layout.{settingsIn, recordIn}
+use Rattle.capi.specs.SearchCall.{shortResultNumber, afterSearch, soughtCall, searchCall}
 use Rattle.capi.specs.Told.{noRecordNumber, fullNumber, collapseNumber, brokenNumber, timeoutNumber, spentNumber, noRecord, beganNumber, beganCall, beginCall, toldOf, advancedCall, advanceCall}
 
 -- how a run stands after an advance
@@ -25,7 +27,7 @@ attemptsNumbers = fullNumber ∷ collapseNumber ∷ brokenNumber ∷ timeoutNumb
 
 -- all that are our own
 abbrev pub ownNumbers : List ℕ
-ownNumbers = noRoomForText ∷ noRecordNumber ∷ attemptsNumbers
+ownNumbers = noRoomForText ∷ noRecordNumber ∷ shortResultNumber ∷ attemptsNumbers
 
 -- whether every number of a list passes a test
 unfoldable pub every : (ℕ → Bool) → List ℕ → Bool
@@ -37,12 +39,12 @@ pub own-from-100 : every (leb 100) ownNumbers ≡ true
 unfolding every
 own-from-100 = refl
 
-pub refusals-below-100 : every (λ n. ltb n 100) (beginRefusals ++ advanceRefusals) ≡ true
+pub refusals-below-100 : every (λ n. ltb n 100) (beginRefusals ++ advanceRefusals ++ searchRefusals) ≡ true
 unfolding every
 refusals-below-100 = refl
 
 -- so `answer < COLLAPSE_FULL` means refused or begun
-pub refused-below-full : every (λ n. ltb n fullNumber) (0 ∷ noRecordNumber ∷ (beginRefusals ++ advanceRefusals)) ≡ true
+pub refused-below-full : every (λ n. ltb n fullNumber) (0 ∷ noRecordNumber ∷ shortResultNumber ∷ (beginRefusals ++ advanceRefusals ++ searchRefusals)) ≡ true
 unfolding every
 refused-below-full = refl
 
@@ -144,3 +146,28 @@ module _ (slice memory work frames : List Float) where
           ≡ true
       go none = refl
       go (some r) = advanced-number budget r
+
+-- the search: 0, no record, a result slice too short, or a refusal that 02 lists for it
+abbrev pub searchNumbers : List ℕ
+searchNumbers = 0 ∷ noRecordNumber ∷ shortResultNumber ∷ searchRefusals
+
+sought-number : (b : Sought) (result : List Float) → refusalAmong searchRefusals (soughtRefusal b) ≡ true → among searchNumbers (soughtCall b result .number) ≡ true
+unfolding soughtCall among
+sought-number (refusedSearch n) result e =
+    among-longer 0 n (noRecordNumber ∷ shortResultNumber ∷ searchRefusals)
+    (among-longer noRecordNumber n (shortResultNumber ∷ searchRefusals) (among-longer shortResultNumber n searchRefusals e))
+sought-number (found b) result e = refl
+
+pub search-number :
+    (slice : List Float) (low high halvings : ℕ) (unit : Float) (budget state work : ℕ) (result : List Float) →
+    among searchNumbers (searchCall slice low high halvings unit budget state work result .number) ≡ true
+unfolding searchCall among
+search-number slice low high halvings unit budget state work result = go (settingsIn slice) (ltb (length result) 4)
+  where
+    go : (o : Option Settings) (b : Bool) →
+        among searchNumbers
+        (option o (λ s. cond b (afterSearch shortResultNumber result) (soughtCall (searchOf unit s budget state work low high halvings) result)) (afterSearch noRecordNumber result) .number)
+        ≡ true
+    go none b = refl
+    go (some s) true = refl
+    go (some s) false = sought-number (searchOf unit s budget state work low high halvings) result (search-refusals unit s budget state work low high halvings)

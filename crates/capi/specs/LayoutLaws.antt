@@ -12,7 +12,7 @@ use lib.ListN.{length, set}
 use Rattle.vectors.specs.Memory.{put}
 use Rattle.vectors.specs.MemoryLaws.{length-put}
 use Rattle.run.specs.PlainRun.{option}
-use Rattle.run.specs.WriteLaws.{wrote-one, wrote-both, wrote-length, put-append}
+use Rattle.run.specs.WriteLaws.{Wrote, wrote-one, wrote-both, wrote-length, put-append}
 use Rattle.run.specs.declared.settings.Settings.{Settings}
 use Rattle.run.specs.declared.settings.Record.{Record}
 use Rattle.capi.specs.Numbers.{wholeIn, switchIn}
@@ -92,14 +92,25 @@ record-long slice r e = go (settingsIn slice) (settings-long slice) e
     go (some s) h e = h s refl
 
 -- ---- storing
--- six stores, one behind the other
+-- four stores, one behind the other, and six
+module _ (k : ℕ) (a b c d : Float) (xs : List Float) where
+  abbrev after-four : List Float
+  after-four = set (set (set (set xs k a) (k + 1) b) (k + 2) c) (k + 3) d
+
+  four-wrote : k + 4 ≤ length xs → Wrote k (a ∷ b ∷ c ∷ d ∷ []) xs after-four
+  four-wrote h =
+      let w1 = wrote-one k a xs (omega arith) in
+      let w2 = wrote-both w1 (wrote-one (k + 1) b _ (omega (arith, wrote-length w1))) refl refl in
+      let w3 = wrote-both w2 (wrote-one (k + 2) c _ (omega (arith, wrote-length w2))) refl refl in
+      wrote-both w3 (wrote-one (k + 3) d _ (omega (arith, wrote-length w3))) refl refl
+
+  pub four-stores : k + 4 ≤ length xs → after-four ≡ put k (a ∷ b ∷ c ∷ d ∷ []) xs
+  four-stores h = four-wrote h .is
+
 pub six-stores : (k : ℕ) (a b c d e f : Float) (xs : List Float) → k + 6 ≤ length xs
     → set (set (set (set (set (set xs k a) (k + 1) b) (k + 2) c) (k + 3) d) (k + 4) e) (k + 5) f ≡ put k (a ∷ b ∷ c ∷ d ∷ e ∷ f ∷ []) xs
 six-stores k a b c d e f xs h =
-    let w1 = wrote-one k a xs (omega arith) in
-    let w2 = wrote-both w1 (wrote-one (k + 1) b _ (omega (arith, wrote-length w1))) refl refl in
-    let w3 = wrote-both w2 (wrote-one (k + 2) c _ (omega (arith, wrote-length w2))) refl refl in
-    let w4 = wrote-both w3 (wrote-one (k + 3) d _ (omega (arith, wrote-length w3))) refl refl in
+    let w4 = four-wrote k a b c d xs (omega arith) in
     let w5 = wrote-both w4 (wrote-one (k + 4) e _ (omega (arith, wrote-length w4))) refl refl in
     let w6 = wrote-both w5 (wrote-one (k + 5) f _ (omega (arith, wrote-length w5))) refl refl in
     w6 .is

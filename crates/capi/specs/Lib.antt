@@ -2,6 +2,9 @@ pub mod Numbers
 pub mod NumbersLaws
 pub mod Layout
 pub mod LayoutLaws
+pub mod SearchCall
+pub mod SearchCallLaws
+pub mod SearchNumbers
 pub mod Sizes
 pub mod SizesLaws
 pub mod Told

@@ -1,15 +1,21 @@
-// Runs for C, Rust and Python to link: begin and advance of the crate run over plain numbers and slices, each a pointer
-// and then a length. include/collapse.h names every function and number.
+// Runs and searches for C, Rust and Python to link: begin and advance of the crate run and the search of the crate
+// threshold, over plain numbers and slices, each a pointer and then a length. include/collapse.h names every function and number.
 ghost use mathlib.Core.Path.{_≡_};
 ghost use lib.ListN.{length, drop};
 ghost use Rattle.run.specs.Frames.{frameSizeAt};
 ghost use Rattle.capi.specs.Sizes.{stateSizeOf, workSizeOf};
+ghost use Rattle.run.specs.Model.{cellCount, workCount};
+ghost use Rattle.capi.specs.SearchCall.{afterSearch, searchCall, searchCallTouched};
 ghost use Rattle.capi.specs.Told.{afterCall, beginCall, beginCallUses, advanceCall, advanceCallUses};
 
+mod found;
 mod layout;
 mod numbers;
 mod told;
 
+use crate::found::BRACKET_LENGTH;
+use crate::found::SHORT_RESULT;
+use crate::found::tell_searched;
 use crate::layout::Asked;
 use crate::layout::Held;
 use crate::layout::record_in;
@@ -21,6 +27,7 @@ use run::settings::Settings;
 use run::simulate::advance;
 use run::simulate::begin;
 use run::state_output_builder::frame_size;
+use threshold::search_in;
 use vectors::grid::length_at_discretization;
 
 // How many numbers of state memory a level wants; 0 for a level outside 5 to 16.
@@ -93,6 +100,36 @@ pub extern "C" fn collapse_advance(
         Held::Is(run) => {
             let advanced = advance(run, state, work, frames, budget);
             tell_advanced(advanced, numbers)
+        }
+    }
+}
+
+// Brackets the threshold amplitude of the settings that a record's slice holds, between two ends in units of `unit`.
+#[no_mangle]
+pub extern "C" fn collapse_search(
+    numbers: &[f64],
+    unit: f64,
+    low: u64,
+    high: u64,
+    halvings: u32,
+    budget: u32,
+    state: &mut [f64],
+    work: &mut [f64],
+    result: &mut [f64],
+) -> u32
+    ensures { λ r. ⌜ afterSearch r (now (result .exit)) ≡ searchCall (now (numbers .entry)) low high halvings unit budget (length (now (state .entry))) (length (now (work .entry))) (now (result .entry)) ⌝ }
+    ensures { λ r. ⌜ drop (searchCallTouched (now (numbers .entry)) low high halvings (length (now (state .entry))) (length (now (work .entry))) (length (now (result .entry))) cellCount) (now (state .exit)) ≡ drop (searchCallTouched (now (numbers .entry)) low high halvings (length (now (state .entry))) (length (now (work .entry))) (length (now (result .entry))) cellCount) (now (state .entry)) ⌝ }
+    ensures { λ r. ⌜ drop (searchCallTouched (now (numbers .entry)) low high halvings (length (now (state .entry))) (length (now (work .entry))) (length (now (result .entry))) workCount) (now (work .exit)) ≡ drop (searchCallTouched (now (numbers .entry)) low high halvings (length (now (state .entry))) (length (now (work .entry))) (length (now (result .entry))) workCount) (now (work .entry)) ⌝ }
+{
+    let asked = settings_in(numbers);
+    match asked {
+        Asked::Not => NO_RECORD,
+        Asked::Is(settings) => {
+            if result.len() < BRACKET_LENGTH {
+                return SHORT_RESULT;
+            }
+            let searched = search_in(unit, settings, low, high, halvings, budget, state, work);
+            tell_searched(searched, result)
         }
     }
 }

@@ -1,5 +1,5 @@
--- Which numbers begin and advance refuse with: those that 01 lists for each, and with the program's memories never 12.
-use mathlib.Core.Path.{_≡_, refl}
+-- Which numbers begin, advance and the search refuse with: those that 01 and 02 list for each, and begin with the program's memories never 12.
+use mathlib.Core.Path.{_≡_, refl, ap, _∙_}
 use mathlib.Core.Bool.{Bool, true, false, cond, not, _||_, _&&_, true≢false}
 use mathlib.Core.List.{List, [], _∷_}
 use mathlib.Core.Option.{Option, none, some}
@@ -23,7 +23,11 @@ use Rattle.run.specs.Model.{faultAt, cellCount, workCount, frameCount, holdsNan
 use Rattle.run.specs.ModelLaws.{sound-settings}
 use Rattle.run.specs.OrderLines.{lentState, lentWork, lentFrames}
 use Rattle.run.specs.PlainRun.{option, hasEnded}
+use Rattle.run.specs.SkipRun.{skipping, ranAt}
 use Rattle.run.specs.Tally.{tooShort, tooMany}
+use Rattle.threshold.specs.Halving.{halve}
+use Rattle.threshold.specs.Search.{amplitudeAt, sideOf, isTimeout, isCollapse, begunRefusal, endsRefusal, isAsked, Sought, refusedSearch, found, sideAt, soughtOf, searchOf}
+use Rattle.threshold.specs.SearchLaws.{begun-refusal}
 
 -- whether a number stands in a list
 unfoldable pub among : List ℕ → ℕ → Bool
@@ -85,6 +89,49 @@ advance-refusals r memory work budget =
     (either advanceRefusals (tooShort s (length memory) work) (some 11) _ refl
     (either advanceRefusals (tooMany (hasEnded s (machineOf r memory)) (r .steps) budget) (some 14) none refl refl))
 
+-- ---- the search
+-- 02, request 1: "15 for ends .., before any run; 16 .., after 15 and begin's checks"; a begin with skip is never refused with 12
+abbrev pub searchRefusals : List ℕ
+searchRefusals = 5 ∷ 6 ∷ 7 ∷ 11 ∷ 13 ∷ 15 ∷ 16 ∷ []
+
+-- where a search is refused
+abbrev pub soughtRefusal : Sought → Option ℕ
+soughtRefusal (refusedSearch n) = some n
+soughtRefusal (found b) = none
+
+module _ (unit : Float) (s : Settings) (budget state work : ℕ) where
+  begun-refusals : (a : Float) → refusalAmong searchRefusals (begunRefusal (ranAt s a state work budget)) ≡ true
+  unfolding beginRefusal lentRefusal among
+  begun-refusals a =
+      let t = skipping s a in
+      ap (refusalAmong searchRefusals) (begun-refusal s a state work budget)
+      ∙ or-else searchRefusals (lentRefusal t state work 0) _
+      (or-else searchRefusals (faultAt t) _ (fault-among searchRefusals t refl refl refl)
+      (either searchRefusals (tooShort t state work) (some 11) none refl refl))
+      (either searchRefusals (holdsNan (firstState t)) (some 13) none refl refl)
+
+  ends-refusals : (a b : Float) → refusalAmong searchRefusals (endsRefusal (ranAt s a state work budget) (ranAt s b state work budget)) ≡ true
+  unfolding endsRefusal among
+  ends-refusals a b =
+      or-else searchRefusals (begunRefusal (ranAt s a state work budget)) _ (begun-refusals a)
+      (or-else searchRefusals (begunRefusal (ranAt s b state work budget)) _ (begun-refusals b)
+      (either searchRefusals (isTimeout (sideOf (ranAt s a state work budget)) && isCollapse (sideOf (ranAt s b state work budget))) none (some 16) refl refl))
+
+  pub search-refusals : (low high halvings : ℕ) → refusalAmong searchRefusals (soughtRefusal (searchOf unit s budget state work low high halvings)) ≡ true
+  unfolding searchOf soughtOf among
+  search-refusals low high halvings =
+      go (isAsked low high halvings) (endsRefusal (ranAt s (amplitudeAt unit low) state work budget) (ranAt s (amplitudeAt unit high) state work budget))
+      (ends-refusals (amplitudeAt unit low) (amplitudeAt unit high))
+    where
+      go : (b : Bool) (o : Option ℕ) → refusalAmong searchRefusals o ≡ true
+          → refusalAmong searchRefusals
+          (soughtRefusal (cond b (option o refusedSearch (found (halve (sideAt unit s budget state work) halvings 0 low high))) (refusedSearch 15)))
+          ≡ true
+      go false o e = refl
+      go true none e = refl
+      go true (some n) e = e
+
+-- ---- the program
 -- a frame has at most 1,163 numbers where state memory for level 7 suffices
 program-frames : (s : Settings) → faultAt s ≡ none → tooShort s lentState lentWork ≡ false → frameCount s ≤ lentFrames
 unfolding frameCount

@@ -1,11 +1,11 @@
 -- 02, request 1: what every accepted search keeps. Nothing here assumes that collapse is monotone in the amplitude.
 use Prim.Native.Nat.{ℕ, _+_, _-_, _*_, _^_, _≤_, _<_}
-use mathlib.Core.Bool.{Bool, true, false, cond, _&&_}
+use mathlib.Core.Bool.{Bool, true, false, cond, _&&_, false≢true}
 use mathlib.Core.Logic.{_↔_}
 use mathlib.Core.Option.{Option, none, some}
 use mathlib.Core.Path.{_≡_, refl, sym, ap, _∙_, subst}
 use native.Mathlib.Omega.{arith}
-use borrow.Author.Tests.{ltb-true, eq-eqb, ne-eqb}
+use borrow.Author.Tests.{ltb-true, leb-true, eq-eqb, ne-eqb}
 use lib.Dec.{eqb, leb, ltb}
 use lib.Ieee.{Float, up}
 use Rattle.run.specs.declared.settings.Settings.{Settings}
@@ -18,7 +18,7 @@ use Rattle.run.specs.Calls.{beginRefusal}
 use Rattle.run.specs.SkipRun.{skipping, notBegun, notRun, ranTo, ranAt}
 use Rattle.threshold.specs.Halving.{Side, timesOut, collapses, neither, refusedRun, Why, used, adjacent, undecided, reasonOf, Bracket, halve, StoppedBy}
 use Rattle.threshold.specs.HalvingLaws.{Kept, kept, gap-halved}
-use Rattle.threshold.specs.Search.{amplitudeAt, sideOf, isTimeout, isCollapse, begunRefusal, endsRefusal, refusedSearch, found, sideAt, soughtOf, searchOf}
+use Rattle.threshold.specs.Search.{amplitudeAt, sideOf, isTimeout, isCollapse, begunRefusal, endsRefusal, isAsked, refusedSearch, found, sideAt, soughtOf, searchOf}
 
 -- ---- what a run that answers timeout or collapse is
 module _ (k : ℕ) (time : Float) where
@@ -53,6 +53,19 @@ ends-run none none timesOut (refusedRun n) e = absurd (some-not-none 16 e)
 ends-run none none collapses y e = absurd (some-not-none 16 e)
 ends-run none none neither y e = absurd (some-not-none 16 e)
 ends-run none none (refusedRun n) y e = absurd (some-not-none 16 e)
+
+-- ends and halvings that are not refused with 15
+abbrev Asked : (low high halvings : ℕ) → Type 0
+Asked low high halvings = (low < high) × ((high ≤ 2 ^ 42) × (halvings ≤ 40))
+
+asked-by : (low high halvings : ℕ) → isAsked low high halvings ≡ true → Asked low high halvings
+asked-by low high halvings = go (ltb low high) (leb high (2 ^ 42)) (leb halvings 40) (ltb-true low high) (leb-true high (2 ^ 42)) (leb-true halvings 40)
+  where
+    go : (x y z : Bool) → (x ≡ true → low < high) → (y ≡ true → high ≤ 2 ^ 42) → (z ≡ true → halvings ≤ 40) → (x && (y && z)) ≡ true → Asked low high halvings
+    go false y z f g h e = absurd (false≢true e)
+    go true false z f g h e = absurd (false≢true e)
+    go true true false f g h e = absurd (false≢true e)
+    go true true true f g h e = (f refl, (g refl, h refl))
 
 module _ (unit : Float) (s : Settings) (budget state work : ℕ) where
   -- the plain run's outcome at so many units
@@ -101,7 +114,7 @@ module _ (unit : Float) (s : Settings) (budget state work : ℕ) where
 
   module _ (low high halvings : ℕ) (b : Bracket) (e : searchOf unit s budget state work low high halvings ≡ found b) where
     record Accepted : Type 0 where
-      order : low < high
+      asked : Asked low high halvings
       low-side : run low ≡ timesOut
       high-side : run high ≡ collapses
       is : b ≡ halve run halvings 0 low high
@@ -109,30 +122,32 @@ module _ (unit : Float) (s : Settings) (budget state work : ℕ) where
     accepted : Accepted
     unfolding searchOf soughtOf endsRefusal sideAt
     accepted =
-        go (ltb low high) (ltb-true low high) (leb high (2 ^ 42) && leb halvings 40)
+        go (isAsked low high halvings) (asked-by low high halvings)
         (begunRefusal (ranAt s (amplitudeAt unit low) state work budget)) (begunRefusal (ranAt s (amplitudeAt unit high) state work budget))
         (isTimeout (run low) && isCollapse (run high))
         (ends-run (begunRefusal (ranAt s (amplitudeAt unit low) state work budget)) (begunRefusal (ranAt s (amplitudeAt unit high) state work budget)) (run low) (run high)) e
       where
         go :
-            (x : Bool) → (x ≡ true → low < high) → (y : Bool) (o p : Option ℕ) (z : Bool) →
+            (x : Bool) → (x ≡ true → Asked low high halvings) → (o p : Option ℕ) (z : Bool) →
             (_≡_ {A = Option ℕ} (option o some (option p some (cond z none (some 16)))) none → (run low ≡ timesOut) × (run high ≡ collapses)) →
-            cond (x && y) (option (option o some (option p some (cond z none (some 16)))) refusedSearch (found (halve run halvings 0 low high))) (refusedSearch 15) ≡ found b →
+            cond x (option (option o some (option p some (cond z none (some 16)))) refusedSearch (found (halve run halvings 0 low high))) (refusedSearch 15) ≡ found b →
             Accepted
-        go false f y o p z g q = let w : _≡_ {A = ℕ} 0 1 = cc in absurd (omega arith)
-        go true f false o p z g q = let w : _≡_ {A = ℕ} 0 1 = cc in absurd (omega arith)
-        go true f true (some n) p z g q = let w : _≡_ {A = ℕ} 0 1 = cc in absurd (omega arith)
-        go true f true none (some n) z g q = let w : _≡_ {A = ℕ} 0 1 = cc in absurd (omega arith)
-        go true f true none none false g q = let w : _≡_ {A = ℕ} 0 1 = cc in absurd (omega arith)
-        go true f true none none true g q =
+        go false f o p z g q = let w : _≡_ {A = ℕ} 0 1 = cc in absurd (omega arith)
+        go true f (some n) p z g q = let w : _≡_ {A = ℕ} 0 1 = cc in absurd (omega arith)
+        go true f none (some n) z g q = let w : _≡_ {A = ℕ} 0 1 = cc in absurd (omega arith)
+        go true f none none false g q = let w : _≡_ {A = ℕ} 0 1 = cc in absurd (omega arith)
+        go true f none none true g q =
             let i : halve run halvings 0 low high ≡ b = cc in
             let h = g refl in
-            record { order = f refl; low-side = h .0; high-side = h .1; is = sym i }
+            record { asked = f refl; low-side = h .0; high-side = h .1; is = sym i }
+
+    pub asked-for : (high ≤ 2 ^ 42) × (halvings ≤ 40)
+    asked-for = accepted .asked .1
 
     pub keeps : Kept run low high halvings 0 b
     keeps =
         let a = accepted in
-        subst (Kept run low high halvings 0) (sym (a .is)) (kept run halvings 0 low high (a .order) (a .low-side) (a .high-side))
+        subst (Kept run low high halvings 0) (sym (a .is)) (kept run halvings 0 low high (a .asked .0) (a .low-side) (a .high-side))
 
     pub bracket-kept : BracketKept low high halvings b
     bracket-kept =
@@ -158,7 +173,7 @@ module _ (unit : Float) (s : Settings) (budget state work : ℕ) where
         let a = accepted in
         let made : halve run halvings 0 low high .made ≡ halvings = ap (λ (x : Bracket). x .made) (sym (a .is)) ∙ m in
         subst (λ (x : Bracket). x .high - x .low ≤ wholeAbove (high - low) (2 ^ halvings)) (sym (a .is))
-        (gap-halved run halvings low high (a .order) (a .low-side) (a .high-side) made)
+        (gap-halved run halvings low high (a .asked .0) (a .low-side) (a .high-side) made)
 
     -- "It stops, the first that applies named": 1 exactly if the halvings are used, else 2 exactly if the ends differ by 1
     pub first-named : reasonOf (b .why) ≡ cond (eqb (b .made) halvings) 1 (cond (eqb (b .high - b .low) 1) 2 3)

@@ -1,5 +1,6 @@
 pub mod AcceptedExactly
 pub mod BytesExactly
+pub mod CollapsedAtOnce
 pub mod CommandBytesLaws
 pub mod CommandKindLaws
 pub mod CommandsLaws

@@ -1,7 +1,7 @@
 -- No number stands for two answers: a refusal that 01 or 02 has carries the number that they list for its call, and the numbers of our own
 -- are no document's: all of them are at least 100. Below the number of full an answer is a refusal, or the 0 of begin and of the search.
 use mathlib.Core.Path.{_≡_, refl}
-use mathlib.Core.Bool.{Bool, true, false, cond, not, _||_, _&&_, false≢true}
+use mathlib.Core.Bool.{Bool, true, false, cond, _||_, _&&_, false≢true}
 use mathlib.Core.List.{List, [], _∷_, _++_}
 use mathlib.Core.Option.{Option, none, some}
 use Prim.Native.Nat.{ℕ, zero, suc, _+_}

@@ -2,7 +2,7 @@
 use mathlib.Core.Path.{_≡_, refl, subst, sym}
 use mathlib.Core.Bool.{false, true}
 use mathlib.Core.List.{List, [], _∷_}
-use Prim.Native.Nat.{ℕ, _^_, _≤_, _<_}
+use Prim.Native.Nat.{ℕ}
 use native.Mathlib.Omega.{arith}
 use lib.Ieee.{Float}
 use lib.Ieee.Exact.{HasValue}
@@ -10,7 +10,7 @@ use Rattle.vectors.proofs.Floats.{whole-value}
 use Rattle.vectors.specs.Constants.{whole}
 use Rattle.run.specs.declared.settings.Settings.{Settings}
 use Rattle.threshold.specs.BracketKept.{bracket-kept, asked-for}
-use Rattle.threshold.specs.Halving.{Side, timesOut, collapses, neither, refusedRun, Why, used, adjacent, undecided, Bracket}
+use Rattle.threshold.specs.Halving.{timesOut, collapses, neither, refusedRun, Why, used, adjacent, undecided, Bracket}
 use Rattle.threshold.specs.MiddleRefused.{middle-refused}
 use Rattle.threshold.specs.Search.{found, searchOf}
 use Rattle.claims.specs.RefusalNumbers.{among}

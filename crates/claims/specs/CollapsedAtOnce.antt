@@ -134,6 +134,9 @@ lapse-by : (p : List Float) → lapseOf 5 zeros p ≡ normalisedOf (map expOf (i
 lapse-by p = laws.lapse-is 5 zeros p ∙ ap (λ (xs : List Float). normalisedOf (map expOf xs)) (integral-is (spacingOf 5) (integrandOf 5 zeros p))
 
 -- ---- amplitude 64
+abbrev pub mass64 : Float
+mass64 = ofBits binary64 0x3F9CF033A2EDC73E
+
 lapse64 : List Float
 lapse64 =
     map (ofBits binary64)
@@ -164,7 +167,7 @@ radialFactor64 =
     0x3FED62AFEFC8F99A ∷ []
     )
 
-computed-64 : Computed sixtyFour lapse64 radialFactor64 (ofBits binary64 0x3F9CF033A2EDC73E)
+computed-64 : Computed sixtyFour lapse64 radialFactor64 mass64
 unfolding integralsFrom integrandOf normalisedOf energyDensityOf massOf charSpeedOf stateHasNan nans.holdsNan stateBlackHoleMass firstAtOrBelow bhRadialFactorThreshold expOf pointsOf pointOf spacingOf tab zeros shape lapse64 radialFactor64 add sub mul div neg round ofInt ofBits le isNan
 computed-64 =
     record {
@@ -177,10 +180,13 @@ computed-64 =
 pub no-nan-64 : holdsNan (firstState (at sixtyFour)) ≡ false
 no-nan-64 = collapsed sixtyFour lapse64 radialFactor64 _ computed-64 .0
 
-pub collapses-64 : massAt (firstState (at sixtyFour)) ≡ some (ofBits binary64 0x3F9CF033A2EDC73E)
+pub collapses-64 : massAt (firstState (at sixtyFour)) ≡ some mass64
 collapses-64 = collapsed sixtyFour lapse64 radialFactor64 _ computed-64 .1
 
 -- ---- amplitude 128
+abbrev pub mass128 : Float
+mass128 = ofBits binary64 0x40634FB5A8174665
+
 lapse128 : List Float
 lapse128 =
     map (ofBits binary64)
@@ -211,7 +217,7 @@ radialFactor128 =
     0x3FEC8D5234A7A2D3 ∷ []
     )
 
-computed-128 : Computed hundredTwentyEight lapse128 radialFactor128 (ofBits binary64 0x40634FB5A8174665)
+computed-128 : Computed hundredTwentyEight lapse128 radialFactor128 mass128
 unfolding integralsFrom integrandOf normalisedOf energyDensityOf massOf charSpeedOf stateHasNan nans.holdsNan stateBlackHoleMass firstAtOrBelow bhRadialFactorThreshold expOf pointsOf pointOf spacingOf tab zeros shape lapse128 radialFactor128 add sub mul div neg round ofInt ofBits le isNan
 computed-128 =
     record {
@@ -224,5 +230,5 @@ computed-128 =
 pub no-nan-128 : holdsNan (firstState (at hundredTwentyEight)) ≡ false
 no-nan-128 = collapsed hundredTwentyEight lapse128 radialFactor128 _ computed-128 .0
 
-pub collapses-128 : massAt (firstState (at hundredTwentyEight)) ≡ some (ofBits binary64 0x40634FB5A8174665)
+pub collapses-128 : massAt (firstState (at hundredTwentyEight)) ≡ some mass128
 collapses-128 = collapsed hundredTwentyEight lapse128 radialFactor128 _ computed-128 .1

@@ -30,6 +30,7 @@ pub mod RefusedExactly
 pub mod ReportExamples
 pub mod RunFits
 pub mod RunRecovered
+pub mod SearchNotEmpty
 pub mod SettingPlacesLaws
 pub mod Simulate
 pub mod SoundLaws

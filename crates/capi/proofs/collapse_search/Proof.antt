@@ -19,7 +19,7 @@ returns : tie.Need-returns
 returns c =
     let a = c .before .before .before .before .before .before .before .before .before .args in (
       search-short (a .numbers .now) (a .low) (a .high) (a .halvings) (length (a .state .now)) (length (a .work .now)) (a .result .now) (a .unit) (a .budget) _
-      (held (c .before .before)) (c .if1 .taken),
+          (held (c .before .before)) (c .if1 .taken),
       (refl, refl),
     )
 
@@ -28,7 +28,7 @@ returns-2 c =
     let call = c .before .before in
     let a = c .before .before .before .before .before .before .before .args in (
       search-none (a .numbers .now) (a .low) (a .high) (a .halvings) (length (a .state .now)) (length (a .work .now)) (a .result .now) (a .unit) (a .budget)
-      (sym (call .settings-in .ensures) ∙ ap askedOf (c .enum-told .given .1)),
+          (sym (call .settings-in .ensures) ∙ ap askedOf (c .enum-told .given .1)),
       (refl, refl),
     )
 
@@ -40,9 +40,11 @@ returns-3 c =
     let is = held (c .before .before .before .before .before .before .before .before .before .before .before .before .before) in
     let a = c .before .before .before .before .before .before .before .before .before .before .before .before .before .before .before .before .before .before .before .before .args in (
       search-told (a .numbers .now) (a .low) (a .high) (a .halvings) (length (a .state .now)) (length (a .work .now)) (a .result .now) _ is long
-      (a .unit) (a .budget) (searchedOf (call .result)) _ _ (call .ensures .answer) (tell .ensures),
-      (kept-beyond _ _ (touched-is (a .numbers .now) (a .low) (a .high) (a .halvings) (length (a .state .now)) (length (a .work .now)) (a .result .now) _ is long cellCount) (call .ensures .state-is),
-      kept-beyond _ _ (touched-is (a .numbers .now) (a .low) (a .high) (a .halvings) (length (a .state .now)) (length (a .work .now)) (a .result .now) _ is long workCount) (call .ensures .work-is)),
+          (a .unit) (a .budget) (searchedOf (call .result)) _ _ (call .ensures .answer) (tell .ensures),
+      (
+        kept-beyond _ _ (touched-is (a .numbers .now) (a .low) (a .high) (a .halvings) (length (a .state .now)) (length (a .work .now)) (a .result .now) _ is long cellCount) (call .ensures .state-is),
+        kept-beyond _ _ (touched-is (a .numbers .now) (a .low) (a .high) (a .halvings) (length (a .state .now)) (length (a .work .now)) (a .result .now) _ is long workCount) (call .ensures .work-is),
+      ),
     )
 
 pub collapse-search-spec : {M : Type 1} → statement M

@@ -1,8 +1,6 @@
 -- `capi::found::tell_searched` meets its contract.
 use mathlib.Core.Path.{refl, ap}
-use mathlib.Core.List.{List}
 use borrow.Author.Needs.{needs}
-use lib.Ieee.{Float}
 use Rattle.capi.specs.SearchCall.{afterSearch, soughtCall}
 use Rattle.capi.specs.SearchCallLaws.{searched-is}
 use Rattle.capi.proofs.found.tell_searched.Statement.{statement}

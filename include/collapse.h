@@ -6,7 +6,8 @@
    side by side, in threads too.
 
    Every call takes any numbers and any lengths. One that is refused changes nothing in the record, in state memory and
-   in frame memory.
+   in frame memory; but to collapse_search state memory is scratch, so that the state of a run that is lent to it is lost,
+   also where it is refused with 13 or 16.
 
    A caller leaves the floating-point mode as a C program finds it: rounding to nearest, subnormal numbers on (no
    FTZ, no DAZ, not -ffast-math). In another mode every call is as safe, but its numbers are others. */
@@ -42,22 +43,27 @@ enum collapse_place {
     COLLAPSE_RECORD_SIZE = 12
 };
 
-/* What collapse_begin and collapse_advance answer. Below 100 every number is one of the documents', from 100 on one of our
-   own. An answer below COLLAPSE_FULL is a refusal, or COLLAPSE_BEGUN. */
+/* What the calls answer. Below 100 every number is one of the documents', from 100 on one of our own. An answer below
+   COLLAPSE_FULL is a refusal, or COLLAPSE_BEGUN, or COLLAPSE_FOUND. */
 enum collapse_answer {
     /* collapse_begin: the run has begun */
     COLLAPSE_BEGUN = 0,
+    /* collapse_search: the bracket is found */
+    COLLAPSE_FOUND = 0,
     /* refusals */
     COLLAPSE_REFUSED_LEVEL = 5,         /* level below 5 or above 16 */
     COLLAPSE_REFUSED_INTERVAL = 6,      /* interval times n is below 1 */
     COLLAPSE_REFUSED_DX_LEVEL = 7,      /* dx level above level */
     COLLAPSE_REFUSED_MEMORY = 11,       /* state or work memory too short */
     COLLAPSE_REFUSED_FRAME_MEMORY = 12, /* collapse_begin, not skipped: no room for a frame */
-    COLLAPSE_REFUSED_NAN = 13,          /* collapse_begin: the initial state holds a NaN */
+    COLLAPSE_REFUSED_NAN = 13,          /* collapse_begin, collapse_search: the initial state holds a NaN */
     COLLAPSE_REFUSED_STEPS = 14,        /* collapse_advance, run not ended: steps + budget above 2147483647 */
+    COLLAPSE_REFUSED_SEARCH = 15,       /* collapse_search: not low < high <= 2^42, or halvings above 40 */
+    COLLAPSE_REFUSED_ENDS = 16,         /* collapse_search: low's run is not timeout, or high's is not collapse */
     COLLAPSE_REFUSED_RECORD = 101,      /* no record: fewer than 12 numbers; a level, a dx level or (collapse_advance)
                                            steps that is no whole number from 0 to 4294967295; a skip or (collapse_advance)
                                            a broken mark that is neither 0 nor 1. Tested before all else. */
+    COLLAPSE_REFUSED_RESULT = 102,      /* collapse_search: fewer than 4 numbers for the result. Tested next. */
     /* collapse_advance: how the run stands */
     COLLAPSE_FULL = 110,      /* the next attempt makes a frame and frame memory has no room; call again with the rest */
     COLLAPSE_COLLAPSED = 111, /* ended: a black hole formed */
@@ -87,6 +93,39 @@ uint32_t collapse_begin(double *record, size_t record_length, double *state, siz
 /* Goes on with the run by at most so many attempts. A run that has ended makes none and answers its end again. */
 uint32_t collapse_advance(double *record, size_t record_length, double *state, size_t state_length, double *work,
                           size_t work_length, double *frames, size_t frames_length, uint32_t budget);
+
+/* A search's result: four doubles, each a whole number. */
+enum collapse_found {
+    COLLAPSE_FOUND_AT_LOW = 0,  /* units; the run there is timeout */
+    COLLAPSE_FOUND_AT_HIGH = 1, /* units; the run there is collapse */
+    COLLAPSE_FOUND_AT_MADE = 2, /* halvings made */
+    COLLAPSE_FOUND_AT_WHY = 3,  /* why it stopped: a number below; a middle that is refused is so with 13 */
+    COLLAPSE_FOUND_SIZE = 4
+};
+
+enum collapse_why {
+    COLLAPSE_WHY_USED = 0,     /* the halvings are used */
+    COLLAPSE_WHY_ADJACENT = 1, /* the ends differ by 1 */
+    COLLAPSE_WHY_NEITHER = 2,  /* the run at the middle is neither timeout nor collapse: spent or broken */
+    COLLAPSE_WHY_REFUSED = 13  /* the run at the middle is refused: its initial state holds a NaN */
+};
+
+/* Document 02's unit, 2^-40. Up to 2^42 of it are amplitude 4, where no run of ours collapsed; a larger unit reaches
+   further. */
+#define COLLAPSE_UNIT 0x1p-40
+
+/* Brackets the threshold amplitude by halving: a low end whose run times out and a high end whose run collapses, in units
+   of `unit`. Settings are those of the record, but the amplitude of a run is units times `unit`, rounded once, and every
+   run is a skip run: the record's amplitude and skip are not used. Each run makes at most `budget` attempts. Each halving
+   runs the middle, (low + high)/2 rounded down, and searches the half that remains. Nothing is assumed of the
+   amplitudes between: outcomes need not be monotone in the amplitude, and a bracket need not be the only one.
+   The record is only read. State and work memory, as for collapse_begin, are scratch. The result is written where the
+   answer is COLLAPSE_FOUND; a refusal writes nothing to it.
+   The answer: COLLAPSE_FOUND, else the first refusal of 101, 102, 15, collapse_begin's for low (5, 6, 7, 11, 13), then for
+   high, 16. */
+uint32_t collapse_search(const double *record, size_t record_length, double unit, uint64_t low, uint64_t high,
+                         uint32_t halvings, uint32_t budget, double *state, size_t state_length, double *work,
+                         size_t work_length, double *result, size_t result_length);
 
 #ifdef __cplusplus
 }

@@ -1,0 +1,119 @@
+//! Times searches of the library capi, the same runs by begin and advance of that library, and the same search over the Rust
+//! with 01's functions, interleaved. bench/run compiles it among the files of oracle/build.
+mod capi;
+mod domain;
+mod mantissas;
+mod ours;
+mod samples;
+mod use_cases;
+
+use capi::Asked;
+use domain::grid::Grid;
+use domain::output_config::OutputConfig;
+use domain::simulation_config::SimulationConfig;
+use samples::{median, now};
+use std::hint::black_box;
+use use_cases::adaptive_time_step::TimeStep;
+use use_cases::integration::rk4_step;
+use use_cases::state_builder::build_initial_state;
+
+/// Samples of each; an odd number, so that the median is one of them.
+const SAMPLES: usize = 11;
+/// 2^-36, of which 2^42 are amplitude 64.
+const UNIT: f64 = 1.0 / (1u64 << 36) as f64;
+const MAX_TIME: f64 = 4.0;
+
+/// Both ends and the halvings made.
+type Bracket = (u64, u64, u32);
+
+fn main() {
+    println!("searches from amplitude 20 up, before time 4; ms of processor time, median of {SAMPLES} interleaved samples");
+    for (level, high, halvings) in [(5, 40, 0), (5, 40, 40), (7, 35, 0), (7, 35, 40), (9, 60, 4)] {
+        compare(level, high, halvings);
+    }
+}
+
+fn compare(level: u32, high: u64, halvings: u32) {
+    let asked = Asked { unit: UNIT, low: 20 << 36, high: high << 36, halvings, budget: 1_000_000 };
+    let mut library = Library::new(level);
+    let mut times = [const { Vec::new() }; 3];
+    for turn in 0..SAMPLES {
+        let mut found = [(0, 0, 0); 3];
+        // another is the first in each turn
+        for i in (0..3).map(|i| (i + turn) % 3) {
+            let start = now();
+            found[i] = black_box(match i {
+                0 => library.search(&asked),
+                1 => halved(&asked, |units| library.collapses(&asked, units)),
+                _ => halved(&asked, |units| rust_collapses(level, &asked, units)),
+            });
+            times[i].push((now() - start) / 1e6);
+        }
+        assert!(found[1..] == [found[0]; 2], "level {level}: the brackets differ");
+    }
+    let [search, calls, rust] = times.map(median);
+    let added = 100.0 * (search / calls - 1.0);
+    print!("level {level}, to {high}, {halvings} halvings: search {search:.3}; its {} runs by begin and advance {calls:.3} ({added:+.2} %)", halvings + 2);
+    println!("; search over the Rust {rust:.3} ({:.2} times)", rust / search);
+}
+
+/// The halvings over runs that collapse, or time out.
+fn halved(a: &Asked, mut collapses: impl FnMut(u64) -> bool) -> Bracket {
+    assert!(!collapses(a.low) && collapses(a.high), "no bracket");
+    let (mut low, mut high) = (a.low, a.high);
+    for _ in 0..a.halvings {
+        let middle = (low + high) / 2;
+        *if collapses(middle) { &mut high } else { &mut low } = middle;
+    }
+    (low, high, a.halvings)
+}
+
+/// The library's record, settings in it, and the memories that every call is lent.
+struct Library {
+    record: Vec<f64>,
+    state: Vec<f64>,
+    work: Vec<f64>,
+}
+
+impl Library {
+    fn new(level: u32) -> Library {
+        let mut record = vec![0.0; capi::RECORD];
+        record[..6].copy_from_slice(&[0.0, level as f64, MAX_TIME, 1.0, 0.0, 1.0]);
+        Library { record, state: vec![0.0; capi::state_size(level)], work: vec![0.0; capi::work_size(level)] }
+    }
+
+    fn search(&mut self, a: &Asked) -> Bracket {
+        let mut found = [0.0; capi::FOUND_SIZE];
+        let answer = capi::search(&self.record, a, &mut self.state, &mut self.work, &mut found);
+        assert!(answer == capi::FOUND, "refused {answer}");
+        (found[0] as u64, found[1] as u64, found[2] as u32)
+    }
+
+    fn collapses(&mut self, a: &Asked, units: u64) -> bool {
+        let mut record = self.record.clone();
+        record[0] = units as f64 * a.unit;
+        let begun = capi::begin(&mut record, &mut self.state, &mut self.work, &mut []);
+        assert!(begun == capi::BEGUN, "refused {begun}");
+        match capi::advance(&mut record, &mut self.state, &mut self.work, &mut [], a.budget) {
+            capi::COLLAPSED => true,
+            capi::TIMED_OUT => false,
+            answer => panic!("answered {answer}"),
+        }
+    }
+}
+
+/// The loop of the published `simulate` without output.
+fn rust_collapses(level: u32, a: &Asked, units: u64) -> bool {
+    let grid = Grid::from_level_of_discretization(level);
+    let sim_config = SimulationConfig { grid, initial_amplitude: units as f64 * a.unit, max_time: MAX_TIME };
+    let out_config = OutputConfig { dt: 1.0, dx_level: 0, skip_state_output: true };
+    let mut state = build_initial_state(&sim_config);
+    let mut made = 0;
+    while state.black_hole_mass().is_none() && !(made > 0 && state.time > MAX_TIME) {
+        let step = TimeStep::next(&sim_config, &out_config, &state);
+        state = rk4_step(&sim_config, &state, step.delta);
+        made += 1;
+        assert!(made < a.budget, "spent");
+    }
+    state.black_hole_mass().is_some()
+}

@@ -9,6 +9,7 @@ mod orders;
 mod ours;
 mod physics;
 mod run;
+mod threshold;
 mod use_cases;
 mod vectors;
 
@@ -18,6 +19,7 @@ fn main() {
         "vectors" => vectors::print(),
         "physics" => physics::print(),
         "run" => run::print(),
+        "threshold" => threshold::print(),
         "orders" => orders::print(),
         "order" => order(std::env::args().nth(2)),
         "random" => random(),
@@ -42,6 +44,6 @@ fn number(i: usize) -> u64 {
 }
 
 fn usage() -> ! {
-    eprintln!("usage: oracle vectors | physics | run | orders | order [FILE] | random PROGRAM COUNT SEED");
+    eprintln!("usage: oracle vectors | physics | run | threshold | orders | order [FILE] | random PROGRAM COUNT SEED");
     std::process::exit(2);
 }

@@ -3,11 +3,13 @@ mod drawn;
 mod search;
 mod table;
 
+use crate::digest::mixed;
 use search::{Asked, Bracket, Why};
 
 pub fn print() {
-    for (k, asked) in table::rows().chain(drawn::rows()).map(|row| table::asked(&row)).enumerate() {
-        println!("case {k} {} beyond 0", answer(&asked));
+    for (k, row) in table::rows().chain(drawn::rows()).enumerate() {
+        let digest = row.iter().fold(1, |d, &word| mixed(mixed(d, word >> 32), word & 0xFFFFFFFF));
+        println!("case {k} asked {digest} {} beyond 0", answer(&table::asked(&row)));
     }
 }
 

@@ -3,9 +3,10 @@ use threshold::Bracket;
 use threshold::Searched;
 use threshold::Why;
 
-// The case's number, the answer, and how many numbers changed that must not.
-pub fn line(k: usize, answer: Searched, beyond: u64) {
+// The case's number, a digest of what is asked, the answer, and how many numbers changed that must not.
+pub fn line(k: usize, asked: u64, answer: Searched, beyond: u64) {
     number(b"case ", k as u64);
+    number(b" asked ", asked);
     match answer {
         Searched::Refused(n) => number(b" refused ", n as u64),
         Searched::Found(b) => bracket(b),

@@ -7,6 +7,7 @@ use crate::memories::least;
 use crate::table;
 use crate::table::ALONE;
 use crate::table::ROWS;
+use cases::digest::mixed;
 use run::settings::Settings;
 use threshold::Searched;
 use threshold::search;
@@ -35,7 +36,26 @@ pub fn carry_out(k: usize, state: &mut [f64], work: &mut [f64]) {
     let level = cell(k, 2);
     let in_state = changed(used(answer, level, 0), state);
     let in_work = changed(used(answer, level, 3), work);
-    line(k, answer, std::num::wrapping_add_u64(in_state, in_work));
+    line(
+        k,
+        digest(k),
+        answer,
+        std::num::wrapping_add_u64(in_state, in_work),
+    );
+}
+
+// Of the row's words.
+fn digest(k: usize) -> u64 {
+    let mut d = 1;
+    for i in 0..14usize {
+        d = with_word(d, cell(k, i));
+    }
+    d
+}
+
+// The high half first.
+fn with_word(d: u64, word: u64) -> u64 {
+    mixed(mixed(d, word / 4294967296), word % 4294967296)
 }
 
 fn on_parts(k: usize, state: &mut [f64], work: &mut [f64]) -> Searched {

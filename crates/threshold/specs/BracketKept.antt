@@ -23,12 +23,12 @@ use Rattle.threshold.specs.Search.{amplitudeAt, sideOf, isTimeout, isCol
 -- ---- what a run that answers timeout or collapse is
 module _ (k : ℕ) (time : Float) where
   -- it is not refused
-  walked :
+  not-refused :
       (o : Option ℕ) (b : Bool) (x : Outcome) (r : Side) → ((n : ℕ) → refusedRun n ≡ r → ⊥) →
       sideOf (option o notBegun (cond b (notRun 14) (ranTo x k time))) ≡ r → (o ≡ none) × ((b ≡ false) × (sideOf (ranTo x k time) ≡ r))
-  walked (some n) b x r p e = absurd (p n e)
-  walked none true x r p e = absurd (p 14 e)
-  walked none false x r p e = (refl, (refl, e))
+  not-refused (some n) b x r p e = absurd (p n e)
+  not-refused none true x r p e = absurd (p 14 e)
+  not-refused none false x r p e = (refl, (refl, e))
 
   is-timeout : (x : Outcome) → sideOf (ranTo x k time) ≡ timesOut → x ≡ timeout
   is-timeout (collapse m) e = let z : _≡_ {A = ℕ} 0 1 = cc in absurd (omega arith)
@@ -78,25 +78,25 @@ module _ (unit : Float) (s : Settings) (budget state work : ℕ) where
   abbrev pub run : ℕ → Side
   run = sideAt unit s budget state work
 
-  pub run-walked :
+  pub run-not-refused :
       (u : ℕ) (r : Side) → ((n : ℕ) → refusedRun n ≡ r → ⊥) → run u ≡ r →
       (beginRefusal (at u) state work 0 ≡ none)
       × ((tooMany (hasEnded (at u) (start (at u))) 0 budget ≡ false)
       × (sideOf (ranTo (outcomeAt u) (plainRun (at u) budget .steps) (plainRun (at u) budget .state .time)) ≡ r))
   unfolding sideAt ranAt
-  run-walked u r p e =
-      walked (plainRun (at u) budget .steps) (plainRun (at u) budget .state .time) (beginRefusal (at u) state work 0)
+  run-not-refused u r p e =
+      not-refused (plainRun (at u) budget .steps) (plainRun (at u) budget .state .time) (beginRefusal (at u) state work 0)
       (tooMany (hasEnded (at u) (start (at u))) 0 budget) (outcomeAt u) r p e
 
-  pub timeout-walked : (u : ℕ) → run u ≡ timesOut →
+  pub run-timeout : (u : ℕ) → run u ≡ timesOut →
       (beginRefusal (at u) state work 0 ≡ none) × ((tooMany (hasEnded (at u) (start (at u))) 0 budget ≡ false) × (outcomeAt u ≡ timeout))
-  timeout-walked u e =
-      let w = run-walked u timesOut (λ n q. let z : _≡_ {A = ℕ} 0 1 = cc in absurd (omega arith)) e in
+  run-timeout u e =
+      let w = run-not-refused u timesOut (λ n q. let z : _≡_ {A = ℕ} 0 1 = cc in absurd (omega arith)) e in
       (w .0, (w .1 .0, is-timeout (plainRun (at u) budget .steps) (plainRun (at u) budget .state .time) (outcomeAt u) (w .1 .1)))
 
   plain-collapse : (u : ℕ) → run u ≡ collapses → (m : Float) × (outcomeAt u ≡ collapse m)
   plain-collapse u e =
-      let w = run-walked u collapses (λ n q. let z : _≡_ {A = ℕ} 0 1 = cc in absurd (omega arith)) e in
+      let w = run-not-refused u collapses (λ n q. let z : _≡_ {A = ℕ} 0 1 = cc in absurd (omega arith)) e in
       is-collapse (plainRun (at u) budget .steps) (plainRun (at u) budget .state .time) (outcomeAt u) (w .1 .1)
 
   -- what every accepted search keeps
@@ -158,7 +158,7 @@ module _ (unit : Float) (s : Settings) (budget state work : ℕ) where
           ordered = k .ordered;
           above = k .above;
           below = k .below;
-          low-run = timeout-walked (b .low) (k .low-run) .1 .1;
+          low-run = run-timeout (b .low) (k .low-run) .1 .1;
           high-run = plain-collapse (b .high) (k .high-run);
           few = omega (arith, k .at-most);
           used-exactly = (λ q. k .when-used q ∙ all, λ q. k .all-made (q ∙ sym all));

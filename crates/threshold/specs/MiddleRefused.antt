@@ -1,5 +1,5 @@
 -- 02, request 1, "a middle run .. is refused": of an accepted search such a middle's initial state holds a NaN, and its number is 13. What begin
--- refuses before it makes a state is the same for every amplitude, and a budget that low's run walks is not refused with 14.
+-- refuses before it makes a state is the same for every amplitude, and a budget with which low's run times out is not refused with 14.
 use Prim.Native.Nat.{ℕ, _+_, _/_}
 use mathlib.Core.Bool.{Bool, true, false, cond, not, _&&_, and-false, true≢false}
 use mathlib.Core.Option.{Option, none, some}
@@ -20,7 +20,7 @@ use Rattle.run.specs.SkipRunLaws.{lent-same}
 use Rattle.run.specs.Tally.{tooMany}
 use Rattle.threshold.specs.Halving.{refusedRun, undecided, Bracket}
 use Rattle.threshold.specs.Search.{amplitudeAt, sideOf, found, sideAt, searchOf}
-use Rattle.threshold.specs.BracketKept.{at, outcomeAt, run, timeout-walked, keeps}
+use Rattle.threshold.specs.BracketKept.{at, outcomeAt, run, run-timeout, keeps}
 
 -- timeout wants a step
 start-no-timeout : (s : Settings) → outcomeOf s (start s) ≡ timeout → ⊥
@@ -67,7 +67,7 @@ module _ (unit : Float) (s : Settings) (budget state work low high halvings : �
   unfolding sideAt ranAt beginRefusal
   middle-refused n q =
       let k = keeps unit s budget state work low high halvings b e in
-      let w = timeout-walked unit s budget state work (b .low) (k .low-run) in
+      let w = run-timeout unit s budget state work (b .low) (k .low-run) in
       let m = (b .low + b .high) / 2 in
       let t = at unit s budget state work m in
       let lent : lentRefusal t state work 0 ≡ none =

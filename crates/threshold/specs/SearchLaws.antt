@@ -3,7 +3,7 @@ use Prim.Native.Nat.{ℕ, _+_, _-_, _^_, _≤_, _<_}
 use mathlib.Core.Bool.{Bool, true, false, cond, _&&_}
 use mathlib.Core.List.{List}
 use mathlib.Core.Option.{Option, none, some}
-use mathlib.Core.Path.{_≡_, refl, sym, ap, ap₂, _∙_}
+use mathlib.Core.Path.{_≡_, refl, sym, ap, ap₂, _∙_, subst}
 use borrow.Author.Tests.{lt-ltb, le-ltb, le-leb, lt-leb}
 use lib.Dec.{leb, ltb}
 use lib.Ieee.{Float}
@@ -80,6 +80,12 @@ module _ (s : Settings) (state work state₁ work₁ state₂ work₂ : List Flo
         work-is = ap (λ (i : ℕ). drop i work₂) (sym y) ∙ b .work-is ∙ ap (λ (i : ℕ). drop i work₁) y ∙ a .work-is;
       }
 
+-- a run at an amplitude, by another name of it
+pub ran-at :
+    (s : Settings) (a b : Float) (budget : ℕ) (state work : List Float) (r : Ran) (state′ work′ : List Float) → a ≡ b →
+    SkipRan s a budget state work r state′ work′ → SkipRan s b budget state work r state′ work′
+ran-at s a b budget state work r state′ work′ e h = subst (λ (x : Float). SkipRan s x budget state work r state′ work′) e h
+
 -- ---- the halvings, with the memories
 module _ (unit : Float) (s : Settings) (low high left made budget : ℕ) (state work : List Float) where
   abbrev run : ℕ → Side
@@ -93,13 +99,12 @@ module _ (unit : Float) (s : Settings) (low high left made budget : ℕ) (state 
   halved-adjacent b l e q = record { answer = q ∙ halve-adjacent run left made low high l e; untouched = untouched-none s state work }
 
   -- after the middle's run, which answers x
-  module _ (more : 0 < left) (apart : high - low ≡ 1 → ⊥) (a : Float) (at : a ≡ amplitudeAt unit (middle low high)) (r : Ran) (state₁ work₁ : List Float)
-      (ran : SkipRan s a budget state work r state₁ work₁) (x : Side) (is : x ≡ sideOf r) where
+  module _
+      (more : 0 < left) (apart : high - low ≡ 1 → ⊥) (r : Ran) (state₁ work₁ : List Float)
+      (ran : SkipRan s (amplitudeAt unit (middle low high)) budget state work r state₁ work₁) (x : Side) (is : x ≡ sideOf r) where
     by-middle : half x low high made (further run left made low high) ≡ halve run left made low high
     unfolding sideAt
-    by-middle =
-        halve-middle run left made low high more apart x
-        (sym (is ∙ ap sideOf (ran .answer) ∙ ap (λ (y : Float). sideOf (ranAt s y (length state) (length work) budget)) at))
+    by-middle = halve-middle run left made low high more apart x (sym (is ∙ ap sideOf (ran .answer)))
 
     -- it stops
     pub halved-stopped : (b : Bracket) → b ≡ half x low high made (further run left made low high) → Halved unit s low high left made budget state work b state₁ work₁
@@ -121,23 +126,21 @@ module _ (unit : Float) (s : Settings) (low high left made budget : ℕ) (state 
         }
 
 -- ---- the search between ends that may be asked for
-module _ (unit : Float) (s : Settings) (low high halvings budget : ℕ) (state work : List Float)
-    (a₁ : Float) (at₁ : a₁ ≡ amplitudeAt unit low) (r₁ : Ran) (state₁ work₁ : List Float) (ran₁ : SkipRan s a₁ budget state work r₁ state₁ work₁)
-    (long₁ : length state₁ ≡ length state) (long-work₁ : length work₁ ≡ length work)
-    (a₂ : Float) (at₂ : a₂ ≡ amplitudeAt unit high) (walks : ℕ) (walks-is : walks ≡ cond (isTimeout (sideOf r₁)) budget 0)
-    (r₂ : Ran) (state₂ work₂ : List Float) (ran₂ : SkipRan s a₂ walks state₁ work₁ r₂ state₂ work₂) where
+module _
+    (unit : Float) (s : Settings) (low high halvings budget : ℕ) (state work : List Float) (r₁ : Ran) (state₁ work₁ : List Float)
+    (ran₁ : SkipRan s (amplitudeAt unit low) budget state work r₁ state₁ work₁) (long₁ : length state₁ ≡ length state) (long-work₁ : length work₁ ≡ length work)
+    (attempts : ℕ) (attempts-is : attempts ≡ cond (isTimeout (sideOf r₁)) budget 0) (r₂ : Ran) (state₂ work₂ : List Float)
+    (ran₂ : SkipRan s (amplitudeAt unit high) attempts state₁ work₁ r₂ state₂ work₂) where
   ends-are :
       endsRefusal r₁ r₂
       ≡ endsRefusal (ranAt s (amplitudeAt unit low) (length state) (length work) budget) (ranAt s (amplitudeAt unit high) (length state) (length work) budget)
   ends-are =
       ap (endsRefusal r₁)
       (ran₂ .answer
-      ∙ ap (λ (y : Float). ranAt s y (length state₁) (length work₁) walks) at₂
-      ∙ ap₂ (λ (i j : ℕ). ranAt s (amplitudeAt unit high) i j walks) long₁ long-work₁
-      ∙ ap (ranAt s (amplitudeAt unit high) (length state) (length work)) walks-is)
+      ∙ ap₂ (λ (i j : ℕ). ranAt s (amplitudeAt unit high) i j attempts) long₁ long-work₁
+      ∙ ap (ranAt s (amplitudeAt unit high) (length state) (length work)) attempts-is)
       ∙ ends-begun r₁ s (amplitudeAt unit high) (length state) (length work) budget
-      ∙ ap (λ (x : Ran). endsRefusal x (ranAt s (amplitudeAt unit high) (length state) (length work) budget))
-      (ran₁ .answer ∙ ap (λ (y : Float). ranAt s y (length state) (length work) budget) at₁)
+      ∙ ap (λ (x : Ran). endsRefusal x (ranAt s (amplitudeAt unit high) (length state) (length work) budget)) (ran₁ .answer)
 
   both : Untouched s state work state₂ work₂
   both = untouched-both s state work state₁ work₁ state₂ work₂ long₁ long-work₁ (ran₁ .untouched) (ran₂ .untouched)

@@ -1,6 +1,8 @@
 // The threshold amplitude of collapse, bracketed by halving.
 ghost use Prim.Native.Nat.{_+_, _*_, _<_};
 ghost use mathlib.Core.Path.{_≡_};
+ghost use Rattle.run.specs.Answers.{ranOf};
+ghost use Rattle.run.specs.SkipRun.{SkipRan};
 ghost use Rattle.threshold.specs.Search.{unit40, amplitudeAt, Ends, Halved, Found, SearchDone};
 ghost use Rattle.threshold.specs.Answers.{whyOf, bracketOf, searchedOf};
 
@@ -12,6 +14,7 @@ use crate::ends::ends_verdict;
 use crate::ends::high_budget;
 use crate::ends::side_of;
 use run::settings::Settings;
+use run::skip_run::Ran;
 use run::skip_run::skip_run;
 
 // 2^-40.
@@ -44,11 +47,27 @@ pub enum Searched {
     Found(Bracket),
 }
 
+// The runs of a search: their settings but for the amplitude, the unit of amplitudes, the budget of each.
+struct Runs {
+    unit: f64,
+    settings: Settings,
+    budget: u32,
+}
+
 // So many units.
 fn amplitude_at(unit: f64, units: u64) -> f64
     ensures { λ r. ⌜ r ≡ amplitudeAt unit units ⌝ }
 {
     std::num::nearest_u64_to_f64(units) * unit
+}
+
+// The run at so many units.
+fn run_at(runs: Runs, units: u64, state: &mut [f64], work: &mut [f64]) -> Ran
+    ensures { λ r. ⌜ SkipRan (runs .settings) (amplitudeAt (runs .unit) units) (runs .budget) (now (state .entry)) (now (work .entry)) (ranOf r) (now (state .exit)) (now (work .exit)) ⌝ }
+{
+    let settings = runs.settings;
+    let amplitude = amplitude_at(runs.unit, units);
+    skip_run(settings, amplitude, runs.budget, state, work)
 }
 
 fn stopped(low: u64, high: u64, made: u32, why: Why) -> Bracket
@@ -64,18 +83,16 @@ fn stopped(low: u64, high: u64, made: u32, why: Why) -> Bracket
 
 // Searches the half that remains, with so many halvings left.
 fn halve(
-    unit: f64,
-    s: Settings,
+    runs: Runs,
     low: u64,
     high: u64,
     left: u32,
     made: u32,
-    budget: u32,
     state: &mut [f64],
     work: &mut [f64],
 ) -> Bracket
     requires { ⌜ Ends low high left made ⌝ }
-    ensures { λ r. ⌜ Halved unit s low high left made budget (now (state .entry)) (now (work .entry)) (bracketOf r) (now (state .exit)) (now (work .exit)) ⌝ }
+    ensures { λ r. ⌜ Halved (runs .unit) (runs .settings) low high left made (runs .budget) (now (state .entry)) (now (work .entry)) (bracketOf r) (now (state .exit)) (now (work .exit)) ⌝ }
 {
     if left == 0 {
         return stopped(low, high, made, Why::Used);
@@ -84,31 +101,11 @@ fn halve(
         return stopped(low, high, made, Why::Adjacent);
     }
     let middle = (low + high) / 2;
-    let ran = skip_run(s, amplitude_at(unit, middle), budget, state, work);
+    let ran = run_at(runs, middle, state, work);
     let side = side_of(ran);
     match side {
-        Side::Timeout => halve(
-            unit,
-            s,
-            middle,
-            high,
-            left - 1,
-            made + 1,
-            budget,
-            state,
-            work,
-        ),
-        Side::Collapse => halve(
-            unit,
-            s,
-            low,
-            middle,
-            left - 1,
-            made + 1,
-            budget,
-            state,
-            work,
-        ),
+        Side::Timeout => halve(runs, middle, high, left - 1, made + 1, state, work),
+        Side::Collapse => halve(runs, low, middle, left - 1, made + 1, state, work),
         Side::Neither => stopped(low, high, made, Why::Neither),
         Side::Refused(n) => stopped(low, high, made, Why::Refused(n)),
     }
@@ -116,26 +113,29 @@ fn halve(
 
 // The bracket between two ends that may be asked for.
 fn bracketed(
-    unit: f64,
-    s: Settings,
+    runs: Runs,
     low: u64,
     high: u64,
     halvings: u32,
-    budget: u32,
     state: &mut [f64],
     work: &mut [f64],
 ) -> Searched
     requires { ⌜ Ends low high halvings 0 ⌝ }
-    ensures { λ r. ⌜ Found unit s low high halvings budget (now (state .entry)) (now (work .entry)) (searchedOf r) (now (state .exit)) (now (work .exit)) ⌝ }
+    ensures { λ r. ⌜ Found (runs .unit) (runs .settings) low high halvings (runs .budget) (now (state .entry)) (now (work .entry)) (searchedOf r) (now (state .exit)) (now (work .exit)) ⌝ }
 {
-    let at_low = skip_run(s, amplitude_at(unit, low), budget, state, work);
-    let walks = high_budget(at_low, budget);
-    let at_high = skip_run(s, amplitude_at(unit, high), walks, state, work);
+    let at_low = run_at(runs, low, state, work);
+    let settings = runs.settings;
+    let runs_high = Runs {
+        unit: runs.unit,
+        settings: settings,
+        budget: high_budget(at_low, runs.budget),
+    };
+    let at_high = run_at(runs_high, high, state, work);
     let verdict = ends_verdict(at_low, at_high);
     match verdict {
         Verdict::Refused(n) => Searched::Refused(n),
         Verdict::Sound => {
-            let found = halve(unit, s, low, high, halvings, 0, budget, state, work);
+            let found = halve(runs, low, high, halvings, 0, state, work);
             Searched::Found(found)
         }
     }
@@ -163,7 +163,12 @@ pub fn search_in(
     if halvings > MOST_HALVINGS {
         return Searched::Refused(15);
     }
-    bracketed(unit, s, low, high, halvings, budget, state, work)
+    let runs = Runs {
+        unit: unit,
+        settings: s,
+        budget: budget,
+    };
+    bracketed(runs, low, high, halvings, state, work)
 }
 
 // The bracket between two ends, in units of 2^-40.

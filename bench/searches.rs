@@ -17,8 +17,6 @@ use use_cases::adaptive_time_step::TimeStep;
 use use_cases::integration::rk4_step;
 use use_cases::state_builder::build_initial_state;
 
-/// Samples of each; an odd number, so that the median is one of them.
-const SAMPLES: usize = 11;
 /// 2^-36, of which 2^42 are amplitude 64.
 const UNIT: f64 = 1.0 / (1u64 << 36) as f64;
 const MAX_TIME: f64 = 4.0;
@@ -26,35 +24,44 @@ const MAX_TIME: f64 = 4.0;
 /// Both ends and the halvings made.
 type Bracket = (u64, u64, u32);
 
+/// Level, the high end's amplitude, halvings; samples of each, an odd number; searches in a sample.
+const SEARCHES: [(u32, u64, u32, usize, usize); 5] =
+    [(5, 40, 0, 41, 100), (5, 40, 40, 41, 4), (7, 35, 0, 41, 6), (7, 35, 40, 21, 1), (9, 60, 4, 7, 1)];
+
 fn main() {
-    println!("searches from amplitude 20 up, before time 4; ms of processor time, median of {SAMPLES} interleaved samples");
-    for (level, high, halvings) in [(5, 40, 0), (5, 40, 40), (7, 35, 0), (7, 35, 40), (9, 60, 4)] {
-        compare(level, high, halvings);
+    println!("searches from amplitude 20 up, before time 4; ms of processor time, medians of interleaved samples; in brackets what a");
+    println!("search adds to its runs, the median over the samples, and how many times faster it is than over the Rust");
+    for (level, high, halvings, samples, times) in SEARCHES {
+        let asked = Asked { unit: UNIT, low: 20 << 36, high: high << 36, halvings, budget: 1_000_000 };
+        let [search, calls, rust] = timed(level, &asked, samples, times);
+        let added = median(search.iter().zip(&calls).map(|(s, c)| 100.0 * (s / c - 1.0)).collect());
+        let [search, calls, rust] = [search, calls, rust].map(median);
+        print!("level {level}, to {high}, {halvings} halvings: search {search:.3}; its {} runs by begin and advance {calls:.3}", halvings + 2);
+        println!(" ({added:+.2} %); search over the Rust {rust:.3} ({:.2})", rust / search);
     }
 }
 
-fn compare(level: u32, high: u64, halvings: u32) {
-    let asked = Asked { unit: UNIT, low: 20 << 36, high: high << 36, halvings, budget: 1_000_000 };
+/// The samples of the library's search, of its runs by begin and advance, and of the search over the Rust, in ms.
+fn timed(level: u32, asked: &Asked, samples: usize, times: usize) -> [Vec<f64>; 3] {
     let mut library = Library::new(level);
-    let mut times = [const { Vec::new() }; 3];
-    for turn in 0..SAMPLES {
+    let mut taken = [const { Vec::new() }; 3];
+    for turn in 0..samples {
         let mut found = [(0, 0, 0); 3];
         // another is the first in each turn
         for i in (0..3).map(|i| (i + turn) % 3) {
             let start = now();
-            found[i] = black_box(match i {
-                0 => library.search(&asked),
-                1 => halved(&asked, |units| library.collapses(&asked, units)),
-                _ => halved(&asked, |units| rust_collapses(level, &asked, units)),
-            });
-            times[i].push((now() - start) / 1e6);
+            for _ in 0..times {
+                found[i] = black_box(match i {
+                    0 => library.search(asked),
+                    1 => halved(asked, |units| library.collapses(asked, units)),
+                    _ => halved(asked, |units| rust_collapses(level, asked, units)),
+                });
+            }
+            taken[i].push((now() - start) / 1e6 / times as f64);
         }
         assert!(found[1..] == [found[0]; 2], "level {level}: the brackets differ");
     }
-    let [search, calls, rust] = times.map(median);
-    let added = 100.0 * (search / calls - 1.0);
-    print!("level {level}, to {high}, {halvings} halvings: search {search:.3}; its {} runs by begin and advance {calls:.3} ({added:+.2} %)", halvings + 2);
-    println!("; search over the Rust {rust:.3} ({:.2} times)", rust / search);
+    taken
 }
 
 /// The halvings over runs that collapse, or time out.

@@ -133,23 +133,26 @@ static void checked_search(struct call c, struct asked a, struct memory result)
 
 /* ---- the cases */
 
-/* Every memory in turn one number short, and none at all. */
+/* Every memory in turn one number short, and none at all; last, state and work memory that nobody wrote to. */
 void search_too_short(uint32_t level)
 {
     for (int which = 0; which < 9; which++) {
         struct call c = memories(level, 2, 0, 0);
         struct memory result = lend(COLLAPSE_FOUND_SIZE), *m[] = {&c.record, &c.state, &c.work, &result};
         struct asked a = {0.5, 0, 128, 3, 40};
+        fill(c.record);
         fill(result);
         settings(c, 1.0, level, 0.25, 2, 0);
         if (which < 8) {
             struct memory *it = m[which % 4], shorter = lend(which < 4 ? it->length - 1 : 0);
-            fill(shorter);
             free(it->at);
             *it = shorter;
-            if (which == 0)
-                settings(c, 1.0, level, 0.25, 2, 0);
+            fill(*it);
+            fill(c.state);
+            fill(c.work);
         }
+        if (which == 0)
+            settings(c, 1.0, level, 0.25, 2, 0);
         checked_search(c, a, result);
         free(result.at);
         give_back(c);

@@ -112,7 +112,7 @@ enum collapse_why {
 
 /* Document 02's unit, 2^-40. Up to 2^42 of it are amplitude 4, where no run of ours collapsed; a larger unit reaches
    further. */
-#define COLLAPSE_UNIT 0x1p-40
+#define COLLAPSE_UNIT (1.0 / 1099511627776.0) /* 0x1p-40, which C++ has from C++17 on */
 
 /* Brackets the threshold amplitude by halving: a low end whose run times out and a high end whose run collapses, in units
    of `unit`. Settings are those of the record, but the amplitude of a run is units times `unit`, rounded once, and every

@@ -42,7 +42,7 @@ pub record Head (s : List ℕ) (at n : ℕ) (c : Command) (rest : List Command) 
   pub is : commandAt s at ≡ c
   pub then : commandsFrom m s (nextAt s at) ≡ rest
 
-pub heads : {x y : Command} {xs ys : List Command} → x ∷ xs ≡ y ∷ ys → (x ≡ y) × (xs ≡ ys)
+pub heads : {A : Type 0} {x y : A} {xs ys : List A} → x ∷ xs ≡ y ∷ ys → (x ≡ y) × (xs ≡ ys)
 heads e = (cc, cc)
 
 pub head-of : (n : ℕ) (s : List ℕ) (at : ℕ) (c : Command) (rest : List Command) → commandsFrom n s at ≡ c ∷ rest → Head s at n c rest

@@ -38,7 +38,7 @@ module _ (s : List ℕ) where
   unfolding nextAt isCut operandSize
   end-next at l e = rw (e, le-ltb (length s) (at + 1 + 0) (omega arith)) (omega arith)
 
-  step-ends : (n at : ℕ) (p : Places) → byteAt s at ≡ 9 → at + 1 ≡ length s → begun p ≡ true → orderFrom (suc n) s at p ≡ Order (settingsAt s p) p
+  pub step-ends : (n at : ℕ) (p : Places) → byteAt s at ≡ 9 → at + 1 ≡ length s → begun p ≡ true → orderFrom (suc n) s at p ≡ Order (settingsAt s p) p
   unfolding orderFrom unlessFault commandFault unlessBegun ended
   step-ends n at p e l b =
       rw (lt-leb (length s) at (omega arith), command-end s at (omega arith) e, e, b, le-ltb (at + 1) (length s) (omega arith))

@@ -365,7 +365,7 @@ soFar-kept s p at (Advance n) l r e f d =
 soFar-kept s p at End l r e f d = absurd (eqb-false (byteAt s at) 9 d (tells s at e))
 soFar-kept s p at (Wrong n) l r e f d = let t = tells s at e in absurd (omega arith)
 
-both : (a b : Bool) → (a && b) ≡ true → (a ≡ true) × (b ≡ true)
+pub both : (a b : Bool) → (a && b) ≡ true → (a ≡ true) × (b ≡ true)
 both true b e = (refl, e)
 both false b e = let z : _≡_ {A = ℕ} 0 1 = cc in absurd (omega arith)
 

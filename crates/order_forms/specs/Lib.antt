@@ -1,0 +1,11 @@
+pub mod BytesAtLaws
+pub mod CommandShape
+pub mod OneSpelling
+pub mod OrderShape
+pub mod SpelledForm
+pub mod SpelledRead
+pub mod Spelling
+pub mod SpellingAnswers
+pub mod SpellingExamples
+pub mod SpellingLaws
+pub mod Writing

@@ -1,0 +1,2 @@
+// Forms of orders: one spelling for each.
+pub mod spelling;

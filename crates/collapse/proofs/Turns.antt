@@ -24,8 +24,8 @@ use Rattle.run.specs.OrderLines.{linesOf}
 use Rattle.run.specs.CarryOut.{Turn, advanceTurn, beginTurn, AfterCall, afterCarried, hasRoom, afterTurn, stayed, goOnOf, beginRead, beginOrderOf, printedBy, callsIn}
 use Rattle.run.specs.CarryOutLaws.{order-prints}
 use Rattle.run.specs.CarryOutEnds.{callsLeft, callsOf, nextOf, FairNext, go-on-falls, go-on-fair, begin-fair}
-use Rattle.collapse.specs.declared.Written.{Written}
-use Rattle.collapse.specs.Output.{isAll, Sent}
+use Rattle.program_io.specs.declared.Written.{Written}
+use Rattle.program_io.specs.Output.{isAll, Sent}
 use Rattle.collapse.specs.Turns.{Lent, isMore, leftOf, endIn, endOf, textIn, thenCalled, callAt, textsTo, CarriedOut}
 
 -- ---- of work memory a call uses only the length

@@ -1,5 +1,5 @@
--- 01, "8: the program's input is above 4,096 bytes": how much of the input is read.
-use Prim.Native.Nat.{ℕ, suc, _≤_}
+-- 01, "8: the program's input is above 4,096 bytes": how much of the input tells what it prints.
+use Prim.Native.Nat.{ℕ}
 use mathlib.Core.Bool.{Bool, true, false, cond}
 use mathlib.Core.List.{List, [], _∷_}
 use mathlib.Core.Path.{_≡_, refl, sym, _∙_, ap}
@@ -11,18 +11,7 @@ use borrow.Author.Tests.{ltb-true, ltb-false, lt-ltb}
 use Rattle.run.specs.Order.{readOrder}
 use Rattle.run.specs.Lines.{Line, refusal}
 use Rattle.run.specs.OrderLines.{readLines, linesOf}
-use Rattle.collapse.specs.declared.Input.{Input}
-use Rattle.collapse.specs.declared.Input.the-variants.{Failed, Ended, Full}
-
--- one byte more than an order may have
-abbrev pub lentInput : ℕ
-lentInput = suc 4096
-
--- reading ends where a read puts nothing more into the buffer, or where the buffer is full
-abbrev pub Counted : (room : ℕ) → Input → Type 0
-Counted room Failed = Unit {0}
-Counted room (Ended count last) = (count ≤ room) × (last ≡ 0)
-Counted room (Full count) = count ≡ room
+use Rattle.program_io.specs.Input.{lentInput}
 
 -- so many bytes of an input tell what it prints
 pub cut-prints : (input : List ℕ) → linesOf (take lentInput input) ≡ linesOf input

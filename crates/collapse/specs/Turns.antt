@@ -13,8 +13,8 @@ use Rattle.run.specs.Lines.{textsOf}
 use Rattle.run.specs.OrderLines.{lentState, lentWork, lentFrames, linesOf}
 use Rattle.run.specs.CarryOut.{Answered, refusedCall, printed, AfterCall, answeredBy, afterCarried, roomFor, stayed, goOnOf, beginOrderOf}
 use Rattle.run.specs.CarryOutEnds.{nextOf}
-use Rattle.collapse.specs.declared.Written.{Written}
-use Rattle.collapse.specs.Output.{isAll, Sent}
+use Rattle.program_io.specs.declared.Written.{Written}
+use Rattle.program_io.specs.Output.{isAll, Sent}
 
 -- "lends for level 7 and 8,192 frame numbers", and room for the lines of any call
 pub record Lent (memory work frames out : ℕ) : Type 0 where

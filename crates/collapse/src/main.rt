@@ -5,25 +5,17 @@ ghost use mathlib.Core.Bool.{_&&_};
 ghost use mathlib.Core.Path.{_≡_};
 ghost use lib.ListN.{length, take};
 ghost use Rattle.run.specs.CarryOut.{afterCarried};
+ghost use Rattle.program_io.specs.Input.{lentInput};
+ghost use Rattle.program_io.specs.Output.{isAll, Sent};
 ghost use Rattle.collapse.specs.Turns.{Lent, isMore, leftOf, endOf, thenCalled, CarriedOut, Answers};
-ghost use Rattle.collapse.specs.Input.{lentInput, Counted};
-ghost use Rattle.collapse.specs.Output.{isAll, Sent};
+use program_io::Input;
+use program_io::Written;
+use program_io::is_all;
+use program_io::read_input;
+use program_io::write;
 use run::carry_out::Carried;
 use run::carry_out::begin_order;
 use run::carry_out::go_on;
-
-// What was read: so many bytes, after which a read put this many more into the buffer, none; or as many as the buffer has.
-enum Input {
-    Failed,
-    Ended(usize, usize),
-    Full(usize),
-}
-
-// What was written: so many bytes, after which a write took this many more, none; or all.
-enum Written {
-    Cut(usize, usize),
-    All(usize),
-}
 
 // Reads at most one byte more than an order may have.
 fn main() {
@@ -36,29 +28,9 @@ fn main() {
     }
 }
 
-// Fills the buffer as far as the input goes.
-fn read_input(buffer: &mut [u8]) -> Input
-    requires { ⌜ length (now buffer) ≡ lentInput ⌝ }
-    ensures { λ r. ⌜ Counted (length (now (buffer .exit))) r ⌝ }
-{
-    let most = buffer.len();
-    let mut count = 0;
-    while count < most {
-        let got = libc::read(libc::STDIN_FILENO, &mut buffer[count..most]);
-        if got < 0 {
-            return Input::Failed;
-        }
-        let more = io::count(got, &buffer[count..most]);
-        if more == 0 {
-            return Input::Ended(count, more);
-        }
-        count += more;
-    }
-    Input::Full(count)
-}
-
 // Carries out the order in the first count bytes: lends for level 7, 8,192 frame numbers and their lines.
 fn answer(buffer: &[u8], count: usize) -> Written
+    requires { ⌜ length (now buffer) ≡ lentInput ⌝ }
     requires { ⌜ count ≤ length (now buffer) ⌝ }
     ensures { λ r. ⌜ Answers (take count (now (buffer .entry))) r ⌝ }
 {
@@ -94,10 +66,10 @@ fn carry_out(
     ensures { λ r. ⌜ CarriedOut (now (input .entry)) (now (state .entry)) (now (work .entry)) (now (frames .entry)) (now (out .entry)) (now (state .exit)) (now (frames .exit)) (now (out .exit)) r ⌝ }
 {
     let mut call = begin_order(input, state, work, frames, out);
-    let mut written = write(out, end_of(call));
+    let mut written = send(out, end_of(call));
     while goes_on(written, call) {
         call = next_call(call, input, state, work, frames, out);
-        written = write(out, end_of(call));
+        written = send(out, end_of(call));
     }
     written
 }
@@ -131,15 +103,6 @@ fn goes_on(written: Written, call: Carried) -> bool
     }
 }
 
-fn is_all(written: Written) -> bool
-    ensures { λ r. ⌜ r ≡ isAll written ⌝ }
-{
-    match written {
-        Written::Cut(_, _) => false,
-        Written::All(_) => true,
-    }
-}
-
 // Where the lines of a call end.
 fn end_of(call: Carried) -> usize
     ensures { λ r. ⌜ r ≡ endOf call ⌝ }
@@ -152,18 +115,9 @@ fn end_of(call: Carried) -> usize
 }
 
 // Writes the lines that end there.
-fn write(out: &[u8], end: usize) -> Written
+fn send(out: &[u8], end: usize) -> Written
     requires { ⌜ end ≤ length (now out) ⌝ }
     ensures { λ r. ⌜ Sent end r ⌝ }
 {
-    let mut done = 0;
-    while done < end {
-        let put = libc::write(libc::STDOUT_FILENO, &out[done..end]);
-        let taken = io::count(put, &out[done..end]);
-        if taken == 0 {
-            return Written::Cut(done, taken);
-        }
-        done += taken;
-    }
-    Written::All(done)
+    write(&out[0..end])
 }

@@ -7,8 +7,8 @@ use borrow.Author.Needs.{needs}
 use Rattle.run.specs.CarryOut.{afterCarried}
 use Rattle.run.specs.CarryOutEnds.{callsLeft}
 use Rattle.collapse.specs.Turns.{isMore, leftOf, endOf}
-use Rattle.collapse.specs.declared.Written.{Written}
-use Rattle.collapse.specs.Output.{isAll, Sent}
+use Rattle.program_io.specs.declared.Written.{Written}
+use Rattle.program_io.specs.Output.{isAll, Sent}
 use Rattle.collapse.proofs.Turns.{Leads, leads-next, going-since, going-falls, going-ended, begun-ends, next-ends, went, stopped}
 use Rattle.collapse.proofs.carry_out.Statement.{statement}
 use Rattle.collapse.proofs.carry_out.Tie as tie
@@ -27,8 +27,8 @@ abbrev μ-loop : tie.MeasureT-loop
 sent : (w : Written) {end stop : ℕ} → end ≡ stop → Sent end w → Sent stop w
 sent w e = subst (λ (k : ℕ). Sent k w) e
 
-write-requires : tie.Need-write-requires Inv-loop μ-loop
-write-requires c κs =
+send-requires : tie.Need-send-requires Inv-loop μ-loop
+send-requires c κs =
     let b = c .before .before .before .before .before .before .before .before .before .before in
     let a = b .before .before .before .before .before .before .before .before .before .before .args in
     omega (
@@ -44,11 +44,11 @@ loop-holds c = (
   refl,
   refl,
   record { keeps = λ memory₀ work₀ frames₀ out₀ w f g. g },
-  sent (c .write .result) (c .before .end-of .ensures) (c .write .ensures),
+  sent (c .send .result) (c .before .end-of .ensures) (c .send .ensures),
 )
 
-write-requires-2 : tie.Need-write-requires-2 Inv-loop μ-loop
-write-requires-2 c κs =
+send-requires-2 : tie.Need-send-requires-2 Inv-loop μ-loop
+send-requires-2 c κs =
     let n = c .before .before .before .before .before .before .before .before .before .before in
     let l = n .before .before .before .before .before .before .before in
     let b = l .before .before .before .before .before .before .before .before .before .before .before .before in
@@ -83,7 +83,7 @@ loop-again c = (
       let a = b .before .before .before .before .before .before .before .before .before .before .args in
       leads-next (a .input .now) (v .state) (v .work) (v .frames) (v .out) (v .call) (n .next-call .result) _ _ _ (n .next-call .ensures)
       (went (isAll (v .written)) (isMore (v .call)) _ (t .before .goes-on .ensures) (t .if1 .taken)) _ _ (v .inv .1) (v .inv .2) _ (v .inv .4),
-  sent (c .write2 .result) (c .before .end-of2 .ensures) (c .write2 .ensures),
+  sent (c .send2 .result) (c .before .end-of2 .ensures) (c .send2 .ensures),
 )
 
 returns : tie.Need-returns Inv-loop μ-loop
@@ -106,12 +106,12 @@ carry-out-spec =
     μ-loop
     (λ c κs. search needs)
     (λ c κs. search needs)
-    write-requires
+    send-requires
     loop-holds
     (λ c κs. search needs)
     (λ c κs. search needs)
     (λ c κs. search needs)
-    write-requires-2
+    send-requires-2
     loop-less
     loop-again
     (λ c. search needs)

@@ -4,7 +4,7 @@ use mathlib.Core.Bool.{_&&_, and-true, and-false}
 use mathlib.Core.Path.{sym, _∙_, ap}
 use Rattle.run.specs.declared.carry_out.Carried.{Carried}
 use Rattle.collapse.specs.Turns.{isMore}
-use Rattle.collapse.specs.Output.{isAll}
+use Rattle.program_io.specs.Output.{isAll}
 use Rattle.collapse.proofs.goes_on.Statement.{statement}
 use Rattle.collapse.proofs.goes_on.Tie as tie
 

@@ -2,16 +2,18 @@
 use native.Mathlib.Omega.{arith}
 use mathlib.Core.Path.{subst}
 use borrow.Author.Needs.{needs}
-use Rattle.collapse.specs.Input.{Counted}
+use Rattle.program_io.specs.Input.{Counted}
 use Rattle.collapse.proofs.main.Statement.{statement}
 use Rattle.collapse.proofs.main.Tie as tie
 
 answer-requires : tie.Need-answer-requires
-answer-requires c κs = subst (Counted _) (c .before .before .read .given .1) (c .before .before .before .before .before .read-input .ensures) .0
+answer-requires c κs =
+    let h = subst (Counted _) (c .before .before .read .given .1) (c .before .before .before .before .before .read-input .ensures) in (omega arith, h .0)
 
 answer-requires-2 : tie.Need-answer-requires-2
 answer-requires-2 c κs =
-    let h = subst (Counted _) (c .before .before .read2 .given .1) (c .before .before .before .before .before .read-input .ensures) in omega (arith, h)
+    let h = subst (Counted _) (c .before .before .read2 .given .1) (c .before .before .before .before .before .read-input .ensures) in
+    (omega arith, omega (arith, h))
 
 pub main-spec : {M : Type 1} → statement M
 main-spec =

@@ -1,19 +1,19 @@
--- `collapse::read_input` meets its contract.
+-- `program_io::write` meets its contract.
 use mathlib.Core.Path.{_≡_}
 use Prim.Native.Nat.{_-_, _≤_}
 use lib.ListN.{length}
 use borrow.Author.Needs.{needs}
-use Rattle.collapse.proofs.read_input.Statement.{statement}
-use Rattle.collapse.proofs.read_input.Tie as tie
+use Rattle.program_io.proofs.write.Statement.{statement}
+use Rattle.program_io.proofs.write.Tie as tie
 
 abbrev Inv-loop : tie.InvT-loop
-Inv-loop buffer₀ most count₀ buffer count = (most ≡ length buffer) × (length buffer ≡ length buffer₀) × (count ≤ most)
+Inv-loop text end done₀ done = (end ≡ length text) × (done ≤ end)
 
 abbrev μ-loop : tie.MeasureT-loop
-μ-loop buffer₀ most count₀ buffer count = most - count
+μ-loop text end done₀ done = end - done
 
-pub read-input-spec : {M : Type 1} → statement M
-read-input-spec =
+pub write-spec : {M : Type 1} → statement M
+write-spec =
     tie.close
     (tie.spec
     Inv-loop
@@ -26,11 +26,7 @@ read-input-spec =
     (λ c. search needs)
     (λ c. search needs)
     (λ c. search needs)
-    (λ c. search needs)
-    (λ c. search needs)
     (λ c κs. search needs)
-    (λ c. search needs)
-    (λ c. search needs)
     (λ c. search needs)
     (λ c. search needs)
     (λ c. search needs)

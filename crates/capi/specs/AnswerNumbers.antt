@@ -1,24 +1,34 @@
 -- No number stands for two answers: a refusal that 01 or 02 has carries the number that they list for its call, and the numbers of our own
--- are no document's: all of them are at least 100. Below the number of full an answer is a refusal, or the 0 of begin and of the search.
-use mathlib.Core.Path.{_≡_, refl}
+-- are no document's: all of them are at least 100. Below the number of full an answer is a refusal, or the 0 of begin, of the search and of the spelling.
+use mathlib.Core.Path.{_≡_, refl, ap, _∙_}
+use mathlib.Core.Logic.{inl, inr}
 use mathlib.Core.Bool.{Bool, true, false, cond, _||_, _&&_, false≢true}
 use mathlib.Core.List.{List, [], _∷_, _++_}
 use mathlib.Core.Option.{Option, none, some}
-use Prim.Native.Nat.{ℕ, zero, suc, _+_}
+use Prim.Native.Nat.{ℕ, zero, suc, _+_, _≤_}
+use native.Mathlib.Omega.{arith}
 use lib.Dec.{eqb, ltb, leb}
 use lib.Ieee.{Float}
 use lib.ListN.{length}
+use Rattle.vectors.specs.MemoryLaws.{side}
 use Rattle.run.specs.Calls.{Stop, recordOf, machineOf, withState, withFrames, refusedBegin, accepted, AfterBegin, beginRefusal, beginOf, AfterAdvance, leftBy, advanceRefusal, advanceOf, isFull, attemptsFrom}
 use Rattle.run.specs.Outcome.{Outcome, collapse, broke, timeout, spent}
 use Rattle.run.specs.PlainRun.{Machine, option, start, outcomeOf, attempt}
 use Rattle.run.specs.Tally.{refused, full, ran}
 use Rattle.run.specs.declared.settings.Settings.{Settings}
 use Rattle.run.specs.declared.settings.Record.{Record}
+use Rattle.run.specs.declared.order.Read.{Read}
+use Rattle.run.specs.declared.order.Read.the-variants.{Refused, Order}
+use Rattle.run.specs.Order.{readOrder}
 use Rattle.run.specs.Report.{noRoomForText}
 use Rattle.threshold.specs.Search.{Sought, refusedSearch, found, searchOf}
 use Rattle.claims.specs.RefusalNumbers.{among, refusalAmong, among-longer, beginRefusals, advanceRefusals, searchRefusals, soughtRefusal, begin-refusals, advance-refusals, search-refusals}
+use Rattle.claims.specs.FaultExactly.{refused-number}
+use Rattle.order_forms.specs.Spelling.{AfterSpelling, spelling}
+use Rattle.order_forms.specs.SpellingAnswers.{spelling-refused, spelling-short, spelling-written}
 use Rattle.capi.specs.Layout.{settingsIn, recordIn}
 use Rattle.capi.specs.SearchCall.{shortResultNumber, afterSearch, soughtCall, searchCall}
+use Rattle.capi.specs.SpellCall.{spellNumber, spelledCall, spellCall}
 use Rattle.capi.specs.Told.{noRecordNumber, fullNumber, collapseNumber, brokenNumber, timeoutNumber, spentNumber, noRecord, beganNumber, beganCall, beginCall, toldOf, advancedCall, advanceCall}
 
 -- how a run stands after an advance
@@ -28,6 +38,14 @@ attemptsNumbers = fullNumber ∷ collapseNumber ∷ brokenNumber ∷ timeoutNumb
 -- all that are our own
 abbrev pub ownNumbers : List ℕ
 ownNumbers = noRoomForText ∷ noRecordNumber ∷ shortResultNumber ∷ attemptsNumbers
+
+-- 02, request 2: "17 for that shortage, after the reader's 1 to 4"
+abbrev pub spellRefusals : List ℕ
+spellRefusals = 1 ∷ 2 ∷ 3 ∷ 4 ∷ 17 ∷ []
+
+-- every refusal that 01 or 02 has for a call
+abbrev pub documentRefusals : List ℕ
+documentRefusals = beginRefusals ++ advanceRefusals ++ searchRefusals ++ spellRefusals
 
 -- whether every number of a list passes a test
 unfoldable pub every : (ℕ → Bool) → List ℕ → Bool
@@ -39,12 +57,12 @@ pub own-from-100 : every (leb 100) ownNumbers ≡ true
 unfolding every
 own-from-100 = refl
 
-pub refusals-below-100 : every (λ n. ltb n 100) (beginRefusals ++ advanceRefusals ++ searchRefusals) ≡ true
+pub refusals-below-100 : every (λ n. ltb n 100) documentRefusals ≡ true
 unfolding every
 refusals-below-100 = refl
 
--- so `answer < COLLAPSE_FULL` means refused or begun
-pub refused-below-full : every (λ n. ltb n fullNumber) (0 ∷ noRecordNumber ∷ shortResultNumber ∷ (beginRefusals ++ advanceRefusals ++ searchRefusals)) ≡ true
+-- so `answer < COLLAPSE_FULL` means refused, begun, found or spelled
+pub refused-below-full : every (λ n. ltb n fullNumber) (0 ∷ noRecordNumber ∷ shortResultNumber ∷ documentRefusals) ≡ true
 unfolding every
 refused-below-full = refl
 
@@ -171,3 +189,30 @@ search-number slice low high halvings unit budget state work result = go (settin
     go none b = refl
     go (some s) true = refl
     go (some s) false = sought-number (searchOf unit s budget state work low high halvings) result (search-refusals unit s budget state work low high halvings)
+
+-- the spelling: 0, or a refusal that 02 lists for it
+abbrev pub spellNumbers : List ℕ
+spellNumbers = 0 ∷ spellRefusals
+
+reader-among : (n : ℕ) → 1 ≤ n → n ≤ 4 → among spellNumbers n ≡ true
+unfolding among
+reader-among zero h k = absurd (omega arith)
+reader-among (suc zero) h k = refl
+reader-among (suc (suc zero)) h k = refl
+reader-among (suc (suc (suc zero))) h k = refl
+reader-among (suc (suc (suc (suc zero)))) h k = refl
+reader-among (suc (suc (suc (suc (suc n))))) h k = absurd (omega arith)
+
+pub spell-number : (order bytes : List ℕ) (position : ℕ) → among spellNumbers (spellCall order bytes position .number) ≡ true
+unfolding spellCall spelledCall spellNumber among
+spell-number order bytes position = go (readOrder order) refl
+  where
+    told : AfterSpelling → Bool
+    told a = among spellNumbers (spellNumber (a .answer))
+
+    go : (r : Read) → readOrder order ≡ r → told (spelling order bytes) ≡ true
+    go (Refused n at) e = let k = refused-number order n at e in ap told (spelling-refused order bytes n at e) ∙ reader-among n (k .0) (k .1)
+    go (Order set p) e = elim (side (length bytes) (length order)) [
+      | inl h ↦ ap told (spelling-short order bytes set p e h)
+      | inr h ↦ ap told (spelling-written order bytes set p e h)
+    ]

@@ -5,6 +5,8 @@ pub mod LayoutLaws
 pub mod SearchCall
 pub mod SearchCallLaws
 pub mod SearchNumbers
+pub mod SpellCall
+pub mod SpellCallLaws
 pub mod Sizes
 pub mod SizesLaws
 pub mod Told

@@ -1,16 +1,19 @@
-// Runs and searches for C, Rust and Python to link: begin and advance of the crate run and the search of the crate
-// threshold, over plain numbers and slices, each a pointer and then a length. include/collapse.h names every function and number.
+// Runs, searches and spellings for C, Rust and Python to link: begin and advance of the crate run, the search of the crate
+// threshold and the writer of the crate order_forms, over plain numbers, pointers to one number, and slices, each a pointer
+// and then a length. include/collapse.h names every function and number.
 ghost use mathlib.Core.Path.{_≡_};
 ghost use lib.ListN.{length, drop};
 ghost use Rattle.run.specs.Frames.{frameSizeAt};
 ghost use Rattle.capi.specs.Sizes.{stateSizeOf, workSizeOf};
 ghost use Rattle.run.specs.Model.{cellCount, workCount};
 ghost use Rattle.capi.specs.SearchCall.{afterSearch, searchCall, searchCallTouched};
+ghost use Rattle.capi.specs.SpellCall.{afterSpell, spellCall};
 ghost use Rattle.capi.specs.Told.{afterCall, beginCall, beginCallUses, advanceCall, advanceCallUses};
 
 mod found;
 mod layout;
 mod numbers;
+mod spelled;
 mod told;
 
 use crate::found::BRACKET_LENGTH;
@@ -20,9 +23,11 @@ use crate::layout::Asked;
 use crate::layout::Held;
 use crate::layout::record_in;
 use crate::layout::settings_in;
+use crate::spelled::tell_spelled;
 use crate::told::NO_RECORD;
 use crate::told::tell_advanced;
 use crate::told::tell_begun;
+use order_forms::spelling::spell;
 use run::settings::Settings;
 use run::simulate::advance;
 use run::simulate::begin;
@@ -132,4 +137,13 @@ pub extern "C" fn collapse_search(
             tell_searched(searched, result)
         }
     }
+}
+
+// Writes an order's one spelling into lent bytes, or tells why not and, for 1 to 4, where.
+#[no_mangle]
+pub extern "C" fn collapse_spell(order: &[u8], out: &mut [u8], position: &mut usize) -> u32
+    ensures { λ r. ⌜ afterSpell r (now (out .exit)) (now (position .exit)) ≡ spellCall (now (order .entry)) (now (out .entry)) (now (position .entry)) ⌝ }
+{
+    let spelled = spell(order, out);
+    tell_spelled(spelled, position)
 }

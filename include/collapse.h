@@ -1,16 +1,16 @@
 /* Scalar field collapse in budgets: the functions of crates/capi, for C and whatever calls C. `rt staticlib capi` writes
    the archive, target/staticlib/libcapi.a, which needs no other library.
 
-   A memory is a pointer to doubles, then how many there are. No two memories of a call may overlap. A memory of length 0
-   is not read, whatever its pointer. Nothing is kept between calls but what the caller lends, so that runs may go on
-   side by side, in threads too.
+   A memory is a pointer, then how many numbers there are: doubles, or the bytes of collapse_spell. No two memories of a
+   call may overlap. A memory of length 0 is neither read nor written, whatever its pointer. Nothing is kept between calls
+   but what the caller lends, so that runs may go on side by side, in threads too.
 
-   Every call takes any numbers and any lengths. One that is refused changes nothing in the record, in state memory and
-   in frame memory; but to collapse_search state memory is scratch, so that the state of a run that is lent to it is lost,
-   also where it is refused with 13 or 16.
+   Every call takes any numbers, any bytes and any lengths. One that is refused changes nothing in the record, in state
+   memory, in frame memory and in lent bytes; but to collapse_search state memory is scratch, so that the state of a run
+   that is lent to it is lost, also where it is refused with 13 or 16.
 
    A caller leaves the floating-point mode as a C program finds it: rounding to nearest, subnormal numbers on (no
-   FTZ, no DAZ, not -ffast-math). In another mode every call is as safe, but its numbers are others. */
+   FTZ, no DAZ, not -ffast-math). In another mode every call is as safe, but the numbers of a run are others. */
 #ifndef COLLAPSE_H
 #define COLLAPSE_H
 
@@ -44,13 +44,20 @@ enum collapse_place {
 };
 
 /* What the calls answer. Below 100 every number is one of the documents', from 100 on one of our own. An answer below
-   COLLAPSE_FULL is a refusal, or COLLAPSE_BEGUN, or COLLAPSE_FOUND. */
+   COLLAPSE_FULL is a refusal, or COLLAPSE_BEGUN, COLLAPSE_FOUND or COLLAPSE_SPELLED, which are 0. */
 enum collapse_answer {
     /* collapse_begin: the run has begun */
     COLLAPSE_BEGUN = 0,
     /* collapse_search: the bracket is found */
     COLLAPSE_FOUND = 0,
-    /* refusals */
+    /* collapse_spell: the order is written */
+    COLLAPSE_SPELLED = 0,
+    /* refusals; 1 to 4 are collapse_spell's alone, each with a position */
+    COLLAPSE_REFUSED_CUT = 1,           /* an operand runs past the end (position of its command), or no 09 came
+                                           (position: the length) */
+    COLLAPSE_REFUSED_COMMAND = 2,       /* a byte outside 01 to 09, or a skip above 1 */
+    COLLAPSE_REFUSED_SEQUENCE = 3,      /* a setting repeated or after 07; a second 07; 08 before 07; a byte after 09 */
+    COLLAPSE_REFUSED_MISSING = 4,       /* 07 with a setting missing; 09 before 07 */
     COLLAPSE_REFUSED_LEVEL = 5,         /* level below 5 or above 16 */
     COLLAPSE_REFUSED_INTERVAL = 6,      /* interval times n is below 1 */
     COLLAPSE_REFUSED_DX_LEVEL = 7,      /* dx level above level */
@@ -60,6 +67,7 @@ enum collapse_answer {
     COLLAPSE_REFUSED_STEPS = 14,        /* collapse_advance, run not ended: steps + budget above 2147483647 */
     COLLAPSE_REFUSED_SEARCH = 15,       /* collapse_search: not low < high <= 2^42, or halvings above 40 */
     COLLAPSE_REFUSED_ENDS = 16,         /* collapse_search: low's run is not timeout, or high's is not collapse */
+    COLLAPSE_REFUSED_ROOM = 17,         /* collapse_spell: fewer bytes for the spelling than the order has */
     COLLAPSE_REFUSED_RECORD = 101,      /* no record: fewer than 12 numbers; a level, a dx level or (collapse_advance)
                                            steps that is no whole number from 0 to 4294967295; a skip or (collapse_advance)
                                            a broken mark that is neither 0 nor 1. Tested before all else. */
@@ -126,6 +134,20 @@ enum collapse_why {
 uint32_t collapse_search(const double *record, size_t record_length, double unit, uint64_t low, uint64_t high,
                          uint32_t halvings, uint32_t budget, double *state, size_t state_length, double *work,
                          size_t work_length, double *result, size_t result_length);
+
+/* Writes the one spelling of an order: its settings as 01 to 06, then 07, the advances and 09 as they stand. Two orders
+   that are not refused have the same spelling exactly if their settings (floats by bits) and their lists of budgets are
+   the same. The spelling of a spelling is itself.
+   An order is bytes, as the program reads them, of any length here: 01 amplitude (8 bytes follow), 02 level (1), 03 max
+   time (8), 04 interval (8), 05 dx level (1), 06 skip (1; 0 or 1), these six once each in any sequence; 07 begin; any
+   number of 08 advance (4); 09 end. A number's lowest byte stands first. Settings that collapse_begin refuses are spelled
+   like others.
+   The order is only read. Its spelling is as long as the order and is written from the first byte of `out` on; the bytes
+   behind it stay. `order` and `out` may not overlap.
+   `position` points to one size_t, which lies in neither of them. Where the answer is 1 to 4 it is set to the position of
+   the first command at fault, counted from 0; with any other answer it stays.
+   The answer: COLLAPSE_SPELLED, else 1 to 4, else 17. A refusal writes nothing to `out`. */
+uint32_t collapse_spell(const uint8_t *order, size_t order_length, uint8_t *out, size_t out_length, size_t *position);
 
 #ifdef __cplusplus
 }

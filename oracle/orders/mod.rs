@@ -1,8 +1,12 @@
-//! Orders: what the program `collapse` prints for them. crates/order_cases prints the same lines for the table.
+//! Orders: what the program `collapse` prints for them, and their spelling. crates/order_cases prints the same lines for the
+//! table.
 mod draft;
+mod lent;
+mod permutations;
 mod program;
 mod random;
 mod reader;
+mod spelling;
 mod table;
 
 pub use random::compare;
@@ -10,13 +14,18 @@ pub use random::compare;
 use crate::digest::mixed;
 use std::io::{Read, Write};
 
-/// Each order of the table: its number, how many bytes it has and their digest; then what the program prints.
+/// Each order of the table: its number, how many bytes it has and their digest; its spelling; then what the program prints.
 pub fn print() {
     for (k, draft) in table::drafts().iter().enumerate() {
         let bytes = draft.bytes();
-        let digest = bytes.iter().fold(1, |d, &b| mixed(d, b as u64));
-        print!("order {k} bytes {} {digest}\n{}", bytes.len(), program::lines(&bytes));
+        println!("order {k} bytes {} {}\n{}", bytes.len(), digest(&bytes), lent::line(&bytes));
+        print!("{}", program::lines(&bytes));
     }
+    println!("{}", permutations::line());
+}
+
+fn digest(bytes: &[u8]) -> u64 {
+    bytes.iter().fold(1, |d, &b| mixed(d, b as u64))
 }
 
 /// One order, from a file or from standard input; of a longer one 4,097 bytes.

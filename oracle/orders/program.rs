@@ -7,7 +7,7 @@ use crate::run::lines::name;
 use crate::run::plain::{Machine, Outcome};
 use std::fmt::Write;
 
-const MOST_BYTES: usize = 4096;
+pub const MOST_BYTES: usize = 4096;
 const MOST_STEPS: u64 = 2_147_483_647;
 /// State, work and frame memory: for level 7, and 8,192 numbers.
 const LENT: (usize, usize, usize) = (8 * 129, 40 * 129, 8192);
@@ -17,13 +17,13 @@ pub fn lines(bytes: &[u8]) -> String {
         return "refused 8\n".to_string();
     }
     match read(bytes) {
-        Err(fault) => format!("refused {} {}\n", fault.number, fault.position),
+        Err(fault) => format!("{fault}\n"),
         Ok(order) => carried_out(&order),
     }
 }
 
 fn carried_out(order: &Order) -> String {
-    let mut machine = match begin(&order.settings, LENT) {
+    let mut machine = match begin(&order.settings(), LENT) {
         Err(number) => return format!("refused {number}\n"),
         Ok(machine) => machine,
     };

@@ -223,5 +223,5 @@ fn float(command: u8, x: f64) -> Vec<u8> {
 fn is_short(bytes: &[u8]) -> bool {
     let Ok(order) = read(bytes) else { return true };
     let budgets: u64 = order.budgets.iter().filter(|&&b| b <= 2_147_483_647).map(|&b| b as u64).sum();
-    order.settings.max_time <= 5.0 || budgets <= 3000
+    order.settings().max_time <= 5.0 || budgets <= 3000
 }

@@ -1,16 +1,31 @@
 //! 01's order reader, from "Orders (added)" and "From the input".
 use crate::digest::of_bits;
 use crate::run::settings::Settings;
+use std::fmt;
 
 pub struct Order {
-    pub settings: Settings,
+    /// Of 01 to 06, floats by their bits.
+    pub operands: [u64; 6],
     pub budgets: Vec<u32>,
+}
+
+impl Order {
+    pub fn settings(&self) -> Settings {
+        let [amplitude, level, max_time, interval, dx_level, skip] = self.operands;
+        Settings::new(of_bits(amplitude), level as u32, of_bits(max_time), of_bits(interval), dx_level as u32, skip == 1)
+    }
 }
 
 /// Why an order is refused: 1 to 4, and the position.
 pub struct Fault {
     pub number: u32,
     pub position: usize,
+}
+
+impl fmt::Display for Fault {
+    fn fmt(&self, to: &mut fmt::Formatter) -> fmt::Result {
+        write!(to, "refused {} {}", self.number, self.position)
+    }
 }
 
 /// How many bytes the operand of a command has; none for a byte that is no command.
@@ -89,10 +104,7 @@ impl Seen {
     }
 
     fn order(self) -> Order {
-        let [amplitude, level, max_time, interval, dx_level, skip] = self.settings.map(|operand| operand.unwrap());
-        let settings =
-            Settings::new(of_bits(amplitude), level as u32, of_bits(max_time), of_bits(interval), dx_level as u32, skip == 1);
-        Order { settings, budgets: self.budgets }
+        Order { operands: self.settings.map(|operand| operand.unwrap()), budgets: self.budgets }
     }
 }
 

@@ -20,6 +20,7 @@ pub fn drafts() -> Vec<Draft> {
     all.extend(PATTERNS.map(pattern));
     all.extend(runs());
     all.extend((0..DRAWN).map(drawn));
+    all.extend(PAYLOADS.map(payloads));
     all
 }
 
@@ -263,4 +264,16 @@ fn drawn(k: u64) -> Draft {
     let asked = asked(30.0 * (1.0 + unit(a)), level as u8, 1.0 + unit(b), interval, (d / 8 % 3) as u8, skip as u8);
     let commands = SEQUENCES[(d / 256 % 15) as usize];
     draft(asked, commands, (d / 4096 % 24) as u32, (d / 131072 % 16) as u32)
+}
+
+/// NaNs with a payload, quiet and signalling, of either sign, each as amplitude, as max time and as interval; commands.
+const PAYLOADS: [([u64; 3], u64); 4] = [
+    ([0x7FF9123456789ABC, 0xFFFB2D3E4F506172, 0x7FF3C1D2E3F40516], 0x6543217889000000),
+    ([0xFFFB2D3E4F506172, 0x7FF3C1D2E3F40516, 0xFFF4A5B6C7D8E9FA], 0x4261537889000000),
+    ([0x7FF3C1D2E3F40516, 0xFFF4A5B6C7D8E9FA, 0x7FF9123456789ABC], 0x3516247889000000),
+    ([0xFFF4A5B6C7D8E9FA, 0x7FF9123456789ABC, 0xFFFB2D3E4F506172], 0x1234567889000000),
+];
+
+fn payloads(([amplitude, max_time, interval], commands): ([u64; 3], u64)) -> Draft {
+    draft(Asked { amplitude, level: 5, max_time, interval, dx_level: 0, skip: 0 }, commands, 3, 45)
 }

@@ -1,5 +1,5 @@
 // Carries out one order turn by turn and prints the lines of each turn.
-ghost use Prim.Native.Nat.{_≤_};
+use crate::bytes::least;
 use run::carry_out::Carried;
 use run::carry_out::begin_order;
 use run::carry_out::go_on;
@@ -40,13 +40,4 @@ fn end_of(now: Carried) -> usize {
         Carried::Last(n) => n,
         Carried::NoRoom => 0,
     }
-}
-
-pub fn least(x: usize, most: usize) -> usize
-    ensures { λ r. ⌜ r ≤ most ⌝ }
-{
-    if x < most {
-        return x;
-    }
-    most
 }

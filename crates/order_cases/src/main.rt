@@ -1,11 +1,15 @@
-// Carries out the orders of the table and prints what `oracle orders` prints for them.
+// Spells and carries out the orders of the table and prints what `oracle orders` prints for them.
+mod bytes;
 mod carry;
 mod draft;
+mod lent;
+mod permutations;
 mod sequences;
 mod table;
 
-use carry::least;
-use cases::digest::mixed;
+use bytes::least;
+use bytes::with;
+use lent::number;
 
 // How many bytes an order has, and the row of the next one.
 struct Written {
@@ -32,9 +36,10 @@ fn main() {
             &mut out,
         );
     }
+    permutations::line();
 }
 
-// Writes order k and prints its heading.
+// Writes order k and prints its heading and its spelling.
 fn write(k: u64, row: usize, input: &mut [u8; 4100]) -> Written {
     let mut words = [0u64; 12];
     table::read(row, &mut words);
@@ -46,27 +51,14 @@ fn write(k: u64, row: usize, input: &mut [u8; 4100]) -> Written {
     }
 }
 
-// The order's number, how many bytes it has and their digest.
+// The order's number, how many bytes it has and their digest; its spelling.
 fn heading(k: u64, length: usize, input: &[u8; 4100]) {
     let whole = &input[..];
     let end = least(length, whole.len());
-    io::write_all(1, b"order ");
-    io::print_decimal(1, k);
-    io::write_all(1, b" bytes ");
-    io::print_decimal(1, end as u64);
-    io::write_all(1, b" ");
-    io::print_decimal(1, digest(&whole[0..end]));
+    let order = &whole[0..end];
+    number(b"order ", k);
+    number(b" bytes ", end as u64);
+    number(b" ", with(1, order));
     io::write_all(1, b"\n");
-}
-
-fn digest(bytes: &[u8]) -> u64 {
-    let mut d = 1;
-    for i in 0..bytes.len() {
-        d = with_byte(d, bytes[i]);
-    }
-    d
-}
-
-fn with_byte(d: u64, b: u8) -> u64 {
-    mixed(d, b as u64)
+    lent::line(order);
 }

@@ -90,14 +90,14 @@ const MOST: u64 = 4294967295;
 // The length of an order that ends where its commands end.
 pub const WHOLE: u64 = 9999;
 
-pub const ORDERS: u64 = 463;
+pub const ORDERS: u64 = 467;
 
-const ROWS: usize = 189;
+const ROWS: usize = 193;
 
 // A row: the number of its first order; amplitude, level, max time, interval, dx level and skip; the commands, whose
 // digits draft.rt explains; the budget of an advance that stands at an even position, and at an odd one; the length.
 #[rattlefmt::skip]
-const TABLE: [u64; 2079] = [
+const TABLE: [u64; 2123] = [
     // Cut at every byte: from this length on, a byte more each order.
     0,  F20, 5, F1, F0_5, 0, 0, TWO,                3, 100, 0,
     46, F20, 5, F1, F0_5, 0, 0, 0x1100000000000000, 3, 100, 0,
@@ -309,13 +309,18 @@ const TABLE: [u64; 2079] = [
     460, 0x402254142BEE5B72, 7, 0x3FE5D44D8827E798, 0x3FB8DF39D08FE3D7, 2, 0, 0x5432167889000000, 22, 3,  WHOLE,
     461, 0x402254142BEECDE0, 5, 0x3FF4EB628A62FDA8, 0x3FCE6438C5CF8E52, 0, 0, EIGHT,              0,  0,  WHOLE,
     462, 0x402254142BEF4050, 5, 0x3FFEEC9E50B20782, 0x3FB856D28ADD32F9, 1, 0, 0x6123457889000000, 9,  13, WHOLE,
+    // NaNs with a payload, quiet and signalling, of either sign, each as amplitude, as max time and as interval.
+    463, 0x7FF9123456789ABC, 5, 0xFFFB2D3E4F506172, 0x7FF3C1D2E3F40516, 0, 0, 0x6543217889000000, 3,  45, WHOLE,
+    464, 0xFFFB2D3E4F506172, 5, 0x7FF3C1D2E3F40516, 0xFFF4A5B6C7D8E9FA, 0, 0, 0x4261537889000000, 3,  45, WHOLE,
+    465, 0x7FF3C1D2E3F40516, 5, 0xFFF4A5B6C7D8E9FA, 0x7FF9123456789ABC, 0, 0, 0x3516247889000000, 3,  45, WHOLE,
+    466, 0xFFF4A5B6C7D8E9FA, 5, 0x7FF9123456789ABC, 0xFFFB2D3E4F506172, 0, 0, TWO,                3,  45, WHOLE,
 ];
 
 // Reads a row and, after it, the number of the next row's first order.
 pub fn read(row: usize, words: &mut [u64; 12]) {
     let table = TABLE;
     for i in 0..12usize {
-        words[i] = table[(row % ROWS * 11 + i) % 2079];
+        words[i] = table[(row % ROWS * 11 + i) % 2123];
     }
 }
 

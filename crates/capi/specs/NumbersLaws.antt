@@ -13,6 +13,7 @@ use lib.Ieee.Back.{unsigned-back}
 use lib.Ieee.Casts.{toUnsigned-lt}
 use lib.Ieee.Exact.{HasValue}
 use lib.Ieee.Fits.{down-pos}
+use Rattle.run.specs.OrderLaws.{both}
 use Rattle.vectors.proofs.Floats.{whole-in, whole-value}
 use Rattle.vectors.specs.Constants.{whole}
 use Rattle.vectors.specs.Powers.{one}
@@ -48,11 +49,6 @@ switch-back false = refl
 -- the code's test: above -1 and below 2^32
 abbrev pub inRange : Float → Bool
 inRange x = lt (fin true 1 (pos 0)) x && lt x (fin false 1 (pos 32))
-
-both : (a b : Bool) → (a && b) ≡ true → (a ≡ true) × (b ≡ true)
-both true true e = (refl, refl)
-both true false e = absurd (false≢true e)
-both false b e = absurd (false≢true e)
 
 -- the whole part is below 2^32
 below : (m d : ℕ) → 0 < d → m < 4294967296 * d → m / d < 4294967296

@@ -38,4 +38,8 @@ void settings(struct call c, double amplitude, uint32_t level, double interval, 
 void search_too_short(uint32_t level);
 void search_forged(uint32_t level, int all);
 
+/* spell.c: orders cut and room short at every length, and so many damaged orders and random bytes. */
+void spell_lengths(void);
+void spell_damaged(size_t rounds);
+
 #endif

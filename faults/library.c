@@ -1,7 +1,7 @@
 /* The library under faults: memories of the exact lengths and one number short, slices that are no record, forged
-   records, small budgets. It is to be run under valgrind's memcheck, which sees every access outside a memory and every
-   decision on a number that nobody wrote. The answers are held to documents 01 and 02 by a reading of its own, here and
-   in calls.c and search.c. */
+   records, small budgets, damaged orders. It is to be run under valgrind's memcheck, which sees every access outside a
+   memory and every decision on a number that nobody wrote. The answers are held to documents 01 and 02 by a reading of its
+   own, here and in calls.c, search.c and spell.c. */
 #include "calls.h"
 #include <math.h>
 #include <stdio.h>
@@ -247,6 +247,9 @@ int main(int count, char **words)
         }
         fprintf(stderr, "level %u: %lu calls\n", (unsigned)level, calls);
     }
+    spell_lengths();
+    spell_damaged(20 * rounds);
+    fprintf(stderr, "spellings: %lu calls\n", calls);
     printf("%lu calls, every answer as the documents have it:", calls);
     for (size_t i = 0; i <= COLLAPSE_SPENT; i++)
         if (answers[i] > 0)

@@ -1,5 +1,5 @@
 //! The Rust side of every comparison: `oracle NAME` prints the cases of one layer and their answers. `oracle order`
-//! answers one order, and `oracle random` compares a program with the answers to random orders.
+//! answers one order, and `oracle random` compares two programs with the answers to random orders.
 mod arguments;
 mod dice;
 mod digest;
@@ -35,8 +35,8 @@ fn order(file: Option<String>) {
 }
 
 fn random() {
-    let program = std::env::args().nth(2).unwrap_or_else(|| usage());
-    orders::compare(&program, number(3), number(4));
+    let program = |i| std::env::args().nth(i).unwrap_or_else(|| usage());
+    orders::compare(&program(2), &program(3), number(4), number(5));
 }
 
 fn number(i: usize) -> u64 {
@@ -44,6 +44,6 @@ fn number(i: usize) -> u64 {
 }
 
 fn usage() -> ! {
-    eprintln!("usage: oracle vectors | physics | run | threshold | orders | order [FILE] | random PROGRAM COUNT SEED");
+    eprintln!("usage: oracle vectors | physics | run | threshold | orders | order [FILE] | random COLLAPSE SPELL COUNT SEED");
     std::process::exit(2);
 }

@@ -1,5 +1,7 @@
 //! Orders: what the program `collapse` prints for them, and their spelling. crates/order_cases prints the same lines for the
 //! table.
+mod child;
+mod compare;
 mod draft;
 mod lent;
 mod permutations;
@@ -9,7 +11,7 @@ mod reader;
 mod spelling;
 mod table;
 
-pub use random::compare;
+pub use compare::compare;
 
 use crate::digest::mixed;
 use std::io::{Read, Write};

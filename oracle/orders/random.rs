@@ -1,91 +1,11 @@
-//! Random orders, good and damaged: what a program prints for each beside what is expected of it.
-use super::program::lines;
+//! Random orders, good and damaged.
 use super::reader::read;
 use crate::dice::Dice;
 use crate::run::settings::least_interval;
-use std::collections::BTreeMap;
-use std::io::{Read, Write};
-use std::process::{Child, Command, Stdio};
-use std::sync::mpsc;
-use std::time::Duration;
-
-/// How long a program may take for one order.
-const PATIENCE: Duration = Duration::from_secs(60);
-
-/// Runs `program` on `count` orders; ends the process with 1 at the first difference.
-pub fn compare(program: &str, count: u64, seed: u64) {
-    println!("seed {seed}, {count} orders");
-    let mut seen: BTreeMap<String, u64> = BTreeMap::new();
-    for k in 0..count {
-        let order = Dice::new(seed, k).order();
-        let expected = lines(&order);
-        let printed = run(program, &order).unwrap_or_else(|why| fail(seed, k, &order, &why));
-        if let Some(why) = difference(expected.as_bytes(), &printed) {
-            fail(seed, k, &order, &why);
-        }
-        for line in expected.lines() {
-            let mut words = line.split(' ');
-            let first = words.next().unwrap();
-            let kind = if first == "refused" { format!("refused {}", words.next().unwrap()) } else { first.to_string() };
-            *seen.entry(kind).or_default() += 1;
-        }
-        if (k + 1) % 500 == 0 {
-            println!("{} orders", k + 1);
-        }
-    }
-    seen.iter().for_each(|(kind, n)| println!("{n} lines: {kind}"));
-    println!("{count} orders compared, no difference");
-}
-
-fn fail(seed: u64, k: u64, order: &[u8], why: &str) -> ! {
-    println!("seed {seed}, order {k}, {} bytes: {why}", order.len());
-    println!("{}", order.iter().map(|b| format!("{b:02X}")).collect::<String>());
-    std::process::exit(1);
-}
-
-/// The first line that differs.
-fn difference(expected: &[u8], printed: &[u8]) -> Option<String> {
-    if expected == printed {
-        return None;
-    }
-    let (mine, theirs): (Vec<_>, Vec<_>) = (expected.split(|&b| b == 10).collect(), printed.split(|&b| b == 10).collect());
-    let at = (0..).find(|&i| mine.get(i) != theirs.get(i)).unwrap();
-    let text = |line: Option<&&[u8]>| line.map_or("the end".to_string(), |l| String::from_utf8_lossy(l).chars().take(400).collect());
-    Some(format!("line {}\nexpected {}\nprinted  {}", at + 1, text(mine.get(at)), text(theirs.get(at))))
-}
-
-/// What the program prints on standard output for an order.
-fn run(program: &str, order: &[u8]) -> Result<Vec<u8>, String> {
-    let mut child = Command::new(program)
-        .stdin(Stdio::piped())
-        .stdout(Stdio::piped())
-        .spawn()
-        .map_err(|why| format!("{program} can't be started: {why}"))?;
-    let printed = talk(&mut child, order);
-    if printed.is_err() {
-        let _ = child.kill();
-    }
-    let status = child.wait().map_err(|why| why.to_string())?;
-    let printed = printed?;
-    if status.code().is_none() { Err(format!("{program} was stopped: {status}")) } else { Ok(printed) }
-}
-
-fn talk(child: &mut Child, order: &[u8]) -> Result<Vec<u8>, String> {
-    // A program may close its input after 4,097 bytes.
-    let _ = child.stdin.take().unwrap().write_all(order);
-    let mut stdout = child.stdout.take().unwrap();
-    let (sender, receiver) = mpsc::channel();
-    std::thread::spawn(move || {
-        let mut printed = Vec::new();
-        let _ = sender.send(stdout.read_to_end(&mut printed).map(|_| printed));
-    });
-    let printed = receiver.recv_timeout(PATIENCE).map_err(|_| format!("no answer in {} seconds", PATIENCE.as_secs()))?;
-    printed.map_err(|why| why.to_string())
-}
 
 impl Dice {
     /// An order whose run is short.
-    fn order(&mut self) -> Vec<u8> {
+    pub fn order(&mut self) -> Vec<u8> {
         loop {
             let order = match self.below(20) {
                 0 => self.noise(),
@@ -103,9 +23,6 @@ impl Dice {
     /// The commands of a good order.
     fn good(&mut self) -> Vec<Vec<u8>> {
         let mut commands = self.settings();
-        for i in (1..6).rev() {
-            commands.swap(i, self.below(i + 1));
-        }
         commands.push(vec![7]);
         for _ in 0..self.choose(&[0, 1, 1, 2, 3, 5, 9]) {
             commands.push(self.advance());
@@ -114,6 +31,7 @@ impl Dice {
         commands
     }
 
+    /// The six settings in any sequence.
     fn settings(&mut self) -> Vec<Vec<u8>> {
         let level = self.choose(&[5u8, 5, 5, 6, 6, 7, 7, 7, 7, self.0 as u8 % 19]);
         let amplitude = match self.below(8) {
@@ -135,15 +53,23 @@ impl Dice {
         };
         let dx_level = self.choose(&[0, 0, 1, 1, 2, 3, level.min(5), level, level + 1, self.0 as u8]);
         let skip = self.choose(&[0, 0, 1]);
-        vec![
+        let mut settings = vec![
             float(1, amplitude), vec![2, level], float(3, max_time), float(4, interval), vec![5, dx_level], vec![6, skip],
-        ]
+        ];
+        for i in (1..6).rev() {
+            settings.swap(i, self.below(i + 1));
+        }
+        settings
     }
 
-    /// Any pattern, often a NaN, an infinity, a zero or the largest.
+    /// Any pattern, often a NaN with any sign and payload, an infinity, a zero or the largest.
     fn pattern(&mut self) -> f64 {
         let edges = [0x7FF8000000000000, 0xFFF0000000000001, 0x7FF0000000000000, 0xFFF0000000000000, 1, 1 << 63, 0x7FEFFFFFFFFFFFFF];
-        f64::from_bits(if self.below(2) == 0 { self.next() } else { self.choose(&edges) })
+        f64::from_bits(match self.below(4) {
+            0 => self.next(),
+            1 => self.next() | 0x7FF0000000000000,
+            _ => self.choose(&edges),
+        })
     }
 
     fn advance(&mut self) -> Vec<u8> {

@@ -1,5 +1,5 @@
 //! The Rust side of every comparison: `oracle NAME` prints the cases of one layer and their answers. `oracle order`
-//! answers one order, and `oracle random` compares two programs with the answers to random orders.
+//! and `oracle spell` answer one order, and `oracle random` compares two programs with the answers to random orders.
 mod arguments;
 mod dice;
 mod digest;
@@ -21,14 +21,15 @@ fn main() {
         "run" => run::print(),
         "threshold" => threshold::print(),
         "orders" => orders::print(),
-        "order" => order(std::env::args().nth(2)),
+        "order" => or_say_why(orders::answer(std::env::args().nth(2))),
+        "spell" => or_say_why(orders::spell(std::env::args().nth(2))),
         "random" => random(),
         _ => usage(),
     }
 }
 
-fn order(file: Option<String>) {
-    if let Err(why) = orders::answer(file) {
+fn or_say_why(written: std::io::Result<()>) {
+    if let Err(why) = written {
         eprintln!("oracle: {why}");
         std::process::exit(1);
     }
@@ -44,6 +45,6 @@ fn number(i: usize) -> u64 {
 }
 
 fn usage() -> ! {
-    eprintln!("usage: oracle vectors | physics | run | threshold | orders | order [FILE] | random COLLAPSE SPELL COUNT SEED");
+    eprintln!("usage: oracle vectors | physics | run | threshold | orders | order [FILE] | spell [FILE] | random COLLAPSE SPELL COUNT SEED");
     std::process::exit(2);
 }

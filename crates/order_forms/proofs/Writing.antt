@@ -12,11 +12,10 @@ use Rattle.run.specs.declared.settings.Settings.{Settings}
 use Rattle.run.specs.declared.order.Places.{Places}
 use Rattle.run.specs.declared.order.Read.the-variants.{Order}
 use Rattle.order_forms.specs.declared.spelling.Spelled.the-variants as variant
-use Rattle.order_forms.specs.Spelling.{spelledOf, afterSpelling, spelling}
+use Rattle.order_forms.specs.Spelling.{bytesAt, spelledOf, afterSpelling, spelling}
 use Rattle.order_forms.specs.SpellingAnswers.{spelling-written}
 use Rattle.order_forms.specs.OrderShape.{operand-inside, order-length, begins-at}
 use Rattle.order_forms.specs.Writing.{Fits, commandBytes, firstThree, lastThree, calls}
-use Rattle.order_forms.specs.Spelling.{bytesAt}
 use Rattle.claims.specs.SettingPlacesLaws.{placeOf}
 use Rattle.order_forms.specs.BytesAtLaws.{length-bytes}
 

@@ -63,21 +63,22 @@ fn difference(expected: &[u8], printed: &[u8]) -> Option<String> {
 
 /// What `spell` answers: the spelling, or nothing and on standard error a line with the refusal and what it means.
 fn spelled(spell: &str, order: &[u8]) -> Result<String, String> {
-    let (answer, out) = match spelling(order) {
-        _ if order.len() > MOST_BYTES => ("refused 8".to_string(), Vec::new()),
-        Err(fault) => (fault.to_string(), Vec::new()),
-        Ok(bytes) => ("written".to_string(), bytes),
+    let expected = match spelling(order) {
+        _ if order.len() > MOST_BYTES => Err("refused 8".to_string()),
+        read => read.map_err(|fault| fault.to_string()),
     };
     let said = run(spell, order)?;
-    if said.out == out && is_told(&answer, &said.err) {
-        return Ok(answer);
+    match expected {
+        Ok(bytes) if said.out == bytes && said.err.is_empty() => Ok("written".to_string()),
+        Err(refusal) if said.out.is_empty() && is_told(&refusal, &said.err) => Ok(refusal),
+        _ => {
+            let expected = expected.map_or_else(|refusal| refusal, |bytes| hexadecimal(&bytes));
+            Err(format!("{spell}\nexpected {expected}\nwritten  {}\nstandard error {}", hexadecimal(&said.out), said.err))
+        }
     }
-    Err(format!("expected {answer} {}\n{spell} wrote {}\nstandard error {}", hexadecimal(&out), hexadecimal(&said.out), said.err))
 }
 
-fn is_told(answer: &str, err: &str) -> bool {
-    match err.strip_prefix(&format!("spell: {answer}: ")) {
-        Some(words) => words.find('\n').is_some_and(|end| end > 0 && end + 1 == words.len()),
-        None => answer == "written" && err.is_empty(),
-    }
+fn is_told(refusal: &str, err: &str) -> bool {
+    let words = err.strip_prefix(&format!("spell: {refusal}: "));
+    words.is_some_and(|words| words.len() > 1 && words.find('\n') == Some(words.len() - 1))
 }

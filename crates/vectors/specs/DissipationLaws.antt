@@ -1,9 +1,9 @@
 -- The dissipation by passes over whole vectors.
 use Rattle.std.specs.Prelude.{◌≡◌, refl, List, ℕ, ◌<◌, length, get_or, Float}
-use Rattle.std.proofs.Common.{sym, ap, ◌∙◌, arith}
+use Rattle.std.proofs.Common.{sym, ap, arith}
 use Rattle.std.specs.Float.{nan, binary64}
 use Rattle.std.specs.Float.Ieee.{mul, div, of_bits, of_int}
-use Rattle.vectors.specs.Constants.{whole, dissipation_factor, constant_bits}
+use Rattle.vectors.specs.Constants.{whole, constant_bits}
 use Rattle.vectors.specs.Dissipation.{radial_correction_of, half_dissipation_at, half_dissipation_of, dissipation_scale, dissipation_at, dissipation_of}
 use Rattle.vectors.specs.Grid.{spacing_of, point_of}
 use Rattle.vectors.specs.Memory.{tab}

@@ -1,6 +1,6 @@
 -- The table of exp (01, "T_j is m/2^52, m the largest whole number with m^256 <= 2^(j + 52 × 256)"): its 256 entries, and that each is that number.
 use Rattle.std.proofs.Common.{◌∙◌, subst, sym, add-zero, zero-add, add-suc, suc-add, le_of_suc-le-suc, not-suc-le-zero, le_trans, not-le_of_lt, lt_of_not-le, arith, leb→le, ltb→lt}
-use Rattle.std.specs.Prelude.{Bool, true, false, ◌&&◌, List, [], ◌∷◌, ℕ, zero, suc, ◌+◌, ◌*◌, ◌^◌, ◌≤◌, ◌<◌, T, leb, ltb, length, get_or}
+use Rattle.std.specs.Prelude.{Bool, true, ◌&&◌, List, [], ◌∷◌, ℕ, zero, suc, ◌+◌, ◌*◌, ◌^◌, ◌≤◌, ◌<◌, T, leb, ltb, length, get_or}
 use Rattle.std.proofs.Math.Nat.{pow-le-pow_left}
 use Rattle.std.specs.Float.Ieee.Fits.{and_l, and_r}
 

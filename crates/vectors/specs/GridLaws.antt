@@ -1,6 +1,6 @@
 -- Laws of the grid's definitions, by the level.
-use Rattle.std.specs.Prelude.{◌≡◌, refl, Bool, true, false, cond, ◌&&◌, ℕ, ◌+◌, ◌^◌, ◌≤◌, ◌<◌, leb, pos, neg_ℤ, Float}
-use Rattle.std.proofs.Common.{sym, ap, ◌∙◌, true≢false, arith, le-leb, leb-true, lt-ltb, le-ltb, pow_mono}
+use Rattle.std.specs.Prelude.{◌≡◌, refl, Bool, true, false, cond, ◌&&◌, ℕ, ◌+◌, ◌^◌, ◌≤◌, ◌<◌, leb, pos, neg_ℤ}
+use Rattle.std.proofs.Common.{sym, ap, true≢false, arith, le-leb, leb-true, lt-ltb, le-ltb, pow_mono}
 use Rattle.std.proofs.lemmas.Bool.{lt-leb}
 use Rattle.std.specs.Float.{nan, fin, binary64}
 use Rattle.std.specs.Float.Ieee.{mul, of_int}

@@ -1,9 +1,9 @@
 -- Laws of `tab`, `part` and `put`, and the invariants of loops that write a memory point by point.
 use Rattle.std.specs.Prelude.{◌≡◌, ◌⊎◌, take, set, Bool, true, false, ◌||◌, leb, ltb}
 use Rattle.std.proofs.Math.Path.{refl, sym, ap}
-use Rattle.std.proofs.Common.{◌∙◌, subst, zero-add, suc-add, le_of_suc-le-suc, not-suc-le-zero, eq-or-lt_of_le, length-append, take-append-drop, leb-true, ltb-true, ltb-false, le-leb, drop-drop, get_or-set_same, ext_get_or}
+use Rattle.std.proofs.Common.{◌∙◌, zero-add, suc-add, le_of_suc-le-suc, not-suc-le-zero, eq-or-lt_of_le, length-append, leb-true, ltb-true, ltb-false, le-leb, drop-drop, get_or-set_same, ext_get_or}
 use mathlib.Core.List.Memᴰ
-use mathlib.Core.List.{List, [], ◌∷◌, ◌++◌, map, append_assoc, Memᴰ}
+use mathlib.Core.List.{List, [], ◌∷◌, ◌++◌, map, Memᴰ}
 use Prim.Native.Nat.{ℕ, zero, suc, ◌+◌, ◌-◌, ◌≤◌, ◌<◌}
 use Rattle.std.proofs.Math.Nat.{add-zero, add-suc}
 use Rattle.std.proofs.Math.Numerals.{add-one}
@@ -11,7 +11,7 @@ use native.Mathlib.Omega.{arith}
 use Rattle.std.proofs.Math.Logic.{inl, inr}
 use Rattle.std.proofs.Math.ListN.{length, get_or, drop, length-take, length-drop, length-set, get_or-append}
 use borrow.Rule.Slice.PartMut.{put_mid}
-use Rattle.std.proofs.Math.Seq.{get_or-set_other, get_or-take, get_or-drop, get_or-append-add, length-take-le, take-length, drop-length}
+use Rattle.std.proofs.Math.Seq.{get_or-set_other, get_or-take, get_or-drop, get_or-append-add, length-take-le}
 use Rattle.vectors.specs.Memory.{tab_from, tab, part, put}
 
 pub by_cases : {P Q : Type 0} (b : Bool) → (b ≡ true → P) → (b ≡ false → Q) → P ⊎ Q

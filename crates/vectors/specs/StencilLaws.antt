@@ -1,17 +1,16 @@
 -- Laws of the stencils: a row's sum at a point in the shape in which code takes it, by where the row's first weight stands.
-use Rattle.std.specs.Prelude.{◌≡◌, Bool, true, false, ℤ, pos, negsuc, length, get_or, drop, Float}
+use Rattle.std.specs.Prelude.{◌≡◌, true, false, ℤ, pos, negsuc, length, get_or, drop, Float}
 use Rattle.std.proofs.Math.Path.{refl, sym, ap}
-use Rattle.std.proofs.Common.{◌∙◌, add-suc}
+use Rattle.std.proofs.Common.{◌∙◌}
 use Rattle.std.proofs.Math.Bool.{cond}
 use mathlib.Core.List.{List, [], ◌∷◌}
 use Prim.Native.Nat.{ℕ, zero, suc, ◌+◌, ◌-◌, ◌≤◌, ◌<◌}
 use Rattle.std.proofs.Math.Nat.{add-zero}
 use native.Mathlib.Omega.{arith}
-use borrow.Author.Tests.{eq-eqb, ne_eqb, lt-ltb, le-ltb}
+use borrow.Author.Tests.{ne_eqb, lt-ltb, le-ltb}
 use Rattle.std.specs.Float.{nan, binary64}
-use Rattle.std.specs.Float.Ieee.{add, mul, div, of_int, of_bits}
+use Rattle.std.specs.Float.Ieee.{mul, div, of_int, of_bits}
 use Rattle.vectors.specs.Constants.{whole}
-use Rattle.vectors.specs.Memory.{tab}
 use Rattle.vectors.specs.MemoryLaws.{length_tab}
 use Rattle.vectors.specs.RowSums.{sum4, sum5, sum5hollow, sum6, sum6descending, sum7hollow}
 use Rattle.vectors.specs.Stencil.{Row, place_of, products_from, plus, total, sum_at, Rows, diff_rows, diff2_rows, row_at, inward, diff_left0, diff_left1, diff_inner, diff_right1, diff_right0, diff2_left0, diff2_left1, diff2_inner, diff2_right1, diff2_right0, diff3_row, diff_at, diff_of, diff2_at, diff2_of, diff3_at, diff3_of, neumann_of}

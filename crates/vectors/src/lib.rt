@@ -1,4 +1,6 @@
 // Vectors of f64, the stencils on them, and exp and tan.
+#![tactic(auto)]
+
 pub mod answer;
 pub mod bits;
 pub mod constants;

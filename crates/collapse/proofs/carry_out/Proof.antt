@@ -44,7 +44,7 @@ loop-holds c = (
   refl,
   refl,
   record { keeps = λ memory₀ work₀ frames₀ out₀ w f g. g },
-  sent c.send.result c.before.end_of_lem.ensures c.send.ensures,
+  sent c.send.result c.before.end_of.ensures c.send.ensures,
 )
 
 send-requires-2 : tie.Need-send-requires-2 invariant-loop decreases-loop

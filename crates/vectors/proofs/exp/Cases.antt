@@ -59,14 +59,14 @@ module _ (y : Float) (S : Shifted y) where
   sum_no_nan =
       let n = shift_below + S.i in
       let b = S.below in
-      subst (λ (z : Float). T (not (is_nan z))) (sym S.sum_is_lem) (value_no_nan (of_int binary64 (pos n)) false n 1 (whole_value n (omega arith)))
+      subst (λ (z : Float). T (not (is_nan z))) (sym S.sum_is) (value_no_nan (of_int binary64 (pos n)) false n 1 (whole_value n (omega arith)))
 
   pub bits_is : to_bits binary64 (add binary64 y shift) ≡ shift_bits + S.i
   bits_is =
       let n = shift_below + S.i in
       let b = S.below in
       let e : 1074 * 2 ^ 52 + n ≡ shift_bits + S.i = omega arith in
-      ap (to_bits binary64) S.sum_is_lem ∙ whole_bits n (omega arith) (omega arith) ∙ e
+      ap (to_bits binary64) S.sum_is ∙ whole_bits n (omega arith) (omega arith) ∙ e
 
   pub offset_is : to_bits binary64 (add binary64 y shift) - shift_bits ≡ S.i
   offset_is = let e = bits_is in omega arith

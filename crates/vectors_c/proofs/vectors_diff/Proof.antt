@@ -8,7 +8,7 @@ use Rattle.vectors_c.proofs.vectors_diff.Tie as tie
 returns : tie.Need-returns
 returns c =
     let call = c.before.before.before in
-    let number = c.number_of_lem.ensures in
+    let number = c.number_of.ensures in
     (number ∙ call.diff.ensures.0, call.diff.ensures.1 ∙ rw number (left_is call.diff.result _ _))
 
 pub vectors_diff_spec : {M : Type 1} → statement M

@@ -9,7 +9,7 @@ use Rattle.capi.proofs.numbers.whole_in.Tie as tie
 
 -- past the test
 ranged : (c : tie.Else1) → in_range c.before.before.args.x ≡ true
-ranged c = sym c.before.in_range_lem.ensures ∙ not-false c.before.in_range_lem.result c.if1.false
+ranged c = sym c.before.in_range.ensures ∙ not-false c.before.in_range.result c.if1.false
 
 cut : (c : tie.After-truncating-f64-to-u64) → c.truncating-f64-to-u64.result ≡ to_unsigned 32 c.before.before.before.args.x
 cut c = cut_is _ _ (ranged c.before) c.truncating-f64-to-u64.ensures
@@ -18,7 +18,7 @@ small : (c : tie.After-truncating-f64-to-u64) → c.truncating-f64-to-u64.result
 small c = cut_small c.before.before.before.args.x _ (ranged c.before) c.truncating-f64-to-u64.ensures
 
 returns : tie.Need-returns
-returns c = whole_out _ (sym c.before.in_range_lem.ensures ∙ not-true c.before.in_range_lem.result c.if1.true)
+returns c = whole_out _ (sym c.before.in_range.ensures ∙ not-true c.before.in_range.result c.if1.true)
 
 cut-requires : tie.Need-truncating-f64-to-u64-requires
 cut-requires c κs = cut_asks _ (ranged c)

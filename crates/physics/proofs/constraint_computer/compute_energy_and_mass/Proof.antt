@@ -31,7 +31,7 @@ loop-again c =
       grown2_step n turn.loop.invariant.2 lt (slots_apart n 3 4 refl) refl refl (λ E f.
           let r = reads2 n 3 4 19 i f le refl refl lt in (
             c.before.before.before.energy-density-at.ensures ∙ rw (r, reads2 n 3 4 8 i f le refl refl lt, reads2 n 3 4 1 i f le refl refl lt),
-            c.mass_at_lem.ensures ∙ rw (r, reads2 n 3 4 5 i f le refl refl lt),
+            c.mass_at.ensures ∙ rw (r, reads2 n 3 4 5 i f le refl refl lt),
           )),
     )
 

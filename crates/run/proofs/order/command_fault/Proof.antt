@@ -11,7 +11,7 @@ case p e g = e ∙ ap (command_fault p) (sym g)
 
 returns : tie.Need-returns
 unfolding command_fault
-returns c = case c.before.before.before.args.p c.setting_fault_lem.ensures c.before.enum_told.given.1
+returns c = case c.before.before.before.args.p c.setting_fault.ensures c.before.enum_told.given.1
 
 returns-2 : tie.Need-returns-2
 unfolding command_fault

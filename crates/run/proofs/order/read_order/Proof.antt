@@ -30,13 +30,13 @@ module _ (c : tie.After-command-fault invariant-loop decreases-loop) where
   input = loop.before.before.before.args.input.now
 
   -- the command of this turn and its fault
-  here : Here input loop.loop.p loop.loop.at read.read-command.result.command c.command_fault_lem.result
+  here : Here input loop.loop.p loop.loop.at read.read-command.result.command c.command_fault.result
   here =
       record {
         rest = loop.loop.inv.2;
         inside = omega arith;
         command = ap (λ (r : CommandRead). r.command) read.read-command.ensures;
-        fault_is = c.command_fault_lem.ensures;
+        fault_is = c.command_fault.ensures;
       }
 
   next : read.read-command.result.next ≡ next_at input loop.loop.at

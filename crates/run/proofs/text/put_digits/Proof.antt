@@ -25,7 +25,7 @@ loop-again c =
       simp length-set (omega arith),
       simp length-set (omega arith),
       omega arith,
-      digit_turn a.at a.base (a.k - v.done) (a.k - (v.done + 1)) v.rest _ v.out (omega arith) (omega arith) c.digit_byte_lem.ensures ∙ v.invariant.4,
+      digit_turn a.at a.base (a.k - v.done) (a.k - (v.done + 1)) v.rest _ v.out (omega arith) (omega arith) c.digit_byte.ensures ∙ v.invariant.4,
     )
 
 returns : tie.Need-returns invariant-loop decreases-loop

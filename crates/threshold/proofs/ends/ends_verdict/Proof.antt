@@ -24,7 +24,7 @@ returns-3 c =
     ends_both (ran_of a.low) (ran_of a.high) true (sym c.before.before.before.before.before.before.before.before.before.before.before.begin-verdict.ensures ∙ ap refusal_of c.before.before.before.before.before.before.before.before.before.enum_told.given.1)
     (sym c.before.before.before.before.before.before.before.before.begin-verdict2.ensures ∙ ap refusal_of c.before.before.before.before.before.before.enum-told2.given.1)
     (sym
-    (ap₂ ◌&&◌ (c.before.before.before.is_timeout_lem.ensures ∙ ap is_timeout c.before.before.before.before.before.side-of.ensures) (c.before.before.is_collapse_lem.ensures ∙ ap is_collapse c.before.before.before.before.side-of2.ensures))
+    (ap₂ ◌&&◌ (c.before.before.before.is_timeout.ensures ∙ ap is_timeout c.before.before.before.before.before.side-of.ensures) (c.before.before.is_collapse.ensures ∙ ap is_collapse c.before.before.before.before.side-of2.ensures))
     ∙ sym c.before.and-also.ensures
     ∙ c.if1.true)
 
@@ -34,7 +34,7 @@ returns-4 c =
     ends_both (ran_of a.low) (ran_of a.high) false (sym c.before.before.before.before.before.before.before.before.before.before.before.begin-verdict.ensures ∙ ap refusal_of c.before.before.before.before.before.before.before.before.before.enum_told.given.1)
     (sym c.before.before.before.before.before.before.before.before.begin-verdict2.ensures ∙ ap refusal_of c.before.before.before.before.before.before.enum-told2.given.1)
     (sym
-    (ap₂ ◌&&◌ (c.before.before.before.is_timeout_lem.ensures ∙ ap is_timeout c.before.before.before.before.before.side-of.ensures) (c.before.before.is_collapse_lem.ensures ∙ ap is_collapse c.before.before.before.before.side-of2.ensures))
+    (ap₂ ◌&&◌ (c.before.before.before.is_timeout.ensures ∙ ap is_timeout c.before.before.before.before.before.side-of.ensures) (c.before.before.is_collapse.ensures ∙ ap is_collapse c.before.before.before.before.side-of2.ensures))
     ∙ sym c.before.and-also.ensures
     ∙ c.if1.false)
 

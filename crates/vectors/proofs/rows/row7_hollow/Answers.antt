@@ -1,0 +1,13 @@
+-- `vectors::rows::row7_hollow` meets its contract.
+use mathlib.Core.Path.{sym, ◌∙◌}
+use borrow.Author.Tests.{leb-true, leb-false}
+use lib.Ieee.{of_bits, div}
+use Rattle.vectors.specs.RowLaws.{sum7hollow_past}
+use Rattle.vectors.proofs.rows.row7_hollow.Goals as goal
+
+pub row7_hollow_inside-requires : goal.row7_hollow_inside-requires
+row7_hollow_inside-requires c = leb-true _ _ (sym c.fits.ensures ∙ c.if-fits.true)
+
+pub returns : goal.returns
+unfolding of_bits div
+returns c = let a = c.args in sum7hollow_past a.w a.v.now a.k (leb-false _ _ (sym c.fits.ensures ∙ c.if-fits.false))

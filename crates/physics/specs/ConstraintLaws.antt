@@ -12,7 +12,7 @@ use Rattle.vectors.specs.Stencil.{diff_of}
 use Rattle.physics.specs.Integral.{integral_of}
 use Rattle.physics.specs.Constraints.{normalised_of, radial_gradient_of, integrand_of, lapse_of, radial_factor_of, char_speed_of, energy_density_of, mass_of}
 use Rattle.physics.specs.SlotNumbers.{field_slot, momentum_slot, energy_density_slot, mass_slot, radial_factor_slot, lapse_slot, char_speed_slot, gradient_slot, scratch_slot, integral_slot, points_slot, slot_count}
-use Rattle.physics.specs.Slots.{Slots, slots, upd, Became, known, wrote2, length_slot}
+use Rattle.physics.specs.Slots.{Slots, slots, upd, Became, wrote2, length_slot}
 use Rattle.physics.specs.Vector.{at}
 use Rattle.physics.specs.VectorLaws.{tab_same, tab_map, map-map}
 use Rattle.physics.specs.Passes.{integrands, log_lapses, exps, normals, lapse_on, lapses, gradients, radial_val, speed_val, energy_val, mass_val, radials, radial_factors, energies, constraints, full_constraints}

@@ -14,7 +14,7 @@ use Rattle.vectors.specs.StencilLaws.{Window, window_left, window_inner, window_
 use Rattle.physics.specs.Equations.{dt_field_of, dt_conj_momentum_of, dt_alternate_mass_of}
 use Rattle.physics.specs.Constraints.{radial_gradient_of}
 use Rattle.physics.specs.SlotNumbers.{field_slot, momentum_slot, radial_factor_slot, lapse_slot, char_speed_slot, gradient_slot, scratch_slot, half_field_slot, half_momentum_slot, dt_field_slot, dt_momentum_slot, dt_mass_slot, points_slot, correction_slot}
-use Rattle.physics.specs.Slots.{Slots, upd, known}
+use Rattle.physics.specs.Slots.{Slots, upd}
 use Rattle.physics.specs.Vector.{at}
 use Rattle.physics.specs.VectorLaws.{tab_same}
 use Rattle.physics.specs.Passes.{Run, half_val, half_on, halves, seconds, field_rate_val, momentum_rate_val, mass_rate_val, rates, derivatives, damping_val, dampings, field_rate_in, momentum_rate_in, field_rates, momentum_rates, mass_rates}

@@ -9,7 +9,7 @@ use Rattle.std.proofs.Math.Seq.{take-add}
 use Rattle.std.specs.Float.{nan}
 use Rattle.vectors.specs.Memory.{tab, part, put}
 use Rattle.vectors.specs.MemoryLaws.{side, length_tab, get_d_tab, length-put, get_d_put_below, get_d_put_in, get_d_put_above, is_put, length-put_is}
-use Rattle.physics.specs.Slots.{Slots, slots, upd, Became, wrote, both, length_slot}
+use Rattle.physics.specs.Slots.{slots, upd, Became, wrote, both, length_slot}
 use Rattle.physics.specs.StepPasses.{advanced_by_sum}
 use Rattle.physics.specs.Vector.{at, advanced_of}
 

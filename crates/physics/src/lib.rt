@@ -1,4 +1,6 @@
 // The physics of the collapse: constraints, equations of motion, and the time step.
+#![tactic(auto)]
+
 mod constraint_computer;
 pub mod constraints;
 mod equations;

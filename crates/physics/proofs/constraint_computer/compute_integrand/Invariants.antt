@@ -1,0 +1,14 @@
+use Rattle.std.proofs.Common.{◌≡◌, ◌-◌, ◌≤◌, length}
+use Rattle.vectors.specs.MemoryLaws.{Grown}
+use Rattle.physics.specs.Slots.{slots}
+use Rattle.physics.specs.Vector.{at}
+use Rattle.physics.specs.Passes.{integrand_val}
+use Rattle.physics.proofs.constraint_computer.compute_integrand.Given as goal
+
+-- the integrand stands before i
+abbrev pub invariant-loop-i : goal.invariant-loop-i
+invariant-loop-i l =
+    (l.i ≤ l.n) × (length l.w ≡ l.len) × Grown l.to l.initial.i l.i (λ E. integrand_val (at (slots l.n E 19)) (slots l.n E 8) (slots l.n E 1)) l.initial.w l.w
+
+abbrev pub decreases-loop-i : goal.decreases-loop-i
+decreases-loop-i l = l.n - l.i

@@ -1,0 +1,8 @@
+-- `energy_density_at` meets its contract: the bits of its constants are those of the definition's.
+use Rattle.std.proofs.Common.{refl}
+use lib.Ieee.{of_bits, round}
+use Rattle.physics.proofs.constraint_computer.energy_density_at.Goals as goal
+
+pub returns : goal.returns
+unfolding of_bits round
+returns c = refl

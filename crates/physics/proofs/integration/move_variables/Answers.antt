@@ -1,0 +1,27 @@
+-- `move_variables` meets its contract.
+use Rattle.std.proofs.Common.{◌*◌, List, refl, ap, ◌∙◌, arith, rules}
+use lib.Ieee.{Float}
+use Rattle.vectors.specs.Memory.{part, put}
+use Rattle.vectors.specs.MemoryLaws.{apart_left, lent}
+use Rattle.physics.specs.NeighbourLaws.{advanced_two, wrote_two}
+use Rattle.physics.specs.PassLaws.{renamed}
+use Rattle.physics.specs.Vector.{advanced_of}
+use Rattle.physics.specs.VectorLaws.{length-advanced_of}
+use Rattle.physics.proofs.integration.move_variables.Goals as goal
+
+pub advance-requires : goal.advance-requires
+advance-requires c =
+    let pre = c.requires in
+    let n = c.args.n in
+    (search rules, record { source = omega arith; target = omega arith; far = apart_left (0 * n) (2 * n) (13 * n) (2 * n) (omega arith) })
+
+pub returns : goal.returns
+returns c =
+    let pre = c.requires in
+    let a = c.args in
+    let n = a.n in
+    let state = a.state.now in
+    let w = a.w.now in
+    let e = ap (λ (x : List Float). advanced_of (2 * n) a.c x (part (13 * n) (2 * n) w)) (lent (0 * n) (2 * n) (2 * n) state (omega arith)) in
+    renamed refl (wrote_two n 0 _ _ w (length-advanced_of n _ _ _) (length-advanced_of n _ _ _) (omega arith)
+    (c.advance.ensures ∙ ap (λ (x : List Float). put (0 * n) x w) (e ∙ advanced_two n a.c state 0 w 13 (omega arith) (omega arith))))

@@ -1,0 +1,27 @@
+-- `next_variables` meets its contract.
+use Rattle.std.proofs.Common.{◌*◌, List, refl, ap, ◌∙◌, arith, rules}
+use lib.Ieee.{Float}
+use Rattle.vectors.specs.Memory.{part, put}
+use Rattle.vectors.specs.MemoryLaws.{apart_left, lent}
+use Rattle.physics.specs.NeighbourLaws.{advanced_by_sum_three, wrote_three}
+use Rattle.physics.specs.PassLaws.{renamed}
+use Rattle.physics.specs.StepLaws.{length-advanced_by_sum}
+use Rattle.physics.specs.StepPasses.{advanced_by_sum}
+use Rattle.physics.proofs.integration.next_variables.Goals as goal
+
+pub advance_by_sum-requires : goal.advance_by_sum-requires
+advance_by_sum-requires c =
+    let pre = c.requires in
+    let n = c.args.n in
+    (search rules, record { source = omega arith; other = omega arith; target = omega arith; far = apart_left (0 * n) (3 * n) (16 * n) (3 * n) (omega arith); far_other = apart_left (0 * n) (3 * n) (13 * n) (3 * n) (omega arith) })
+
+pub returns : goal.returns
+returns c =
+    let pre = c.requires in
+    let a = c.args in
+    let n = a.n in
+    let state = a.state.now in
+    let w = a.w.now in
+    let e = ap (λ (x : List Float). advanced_by_sum (3 * n) a.c x (part (16 * n) (3 * n) w) (part (13 * n) (3 * n) w)) (lent (0 * n) (3 * n) (3 * n) state (omega arith)) in
+    renamed refl (wrote_three n 0 _ _ _ w (length-advanced_by_sum n _ _ _ _) (length-advanced_by_sum n _ _ _ _) (length-advanced_by_sum n _ _ _ _) (omega arith)
+    (c.advance_by_sum.ensures ∙ ap (λ (x : List Float). put (0 * n) x w) (e ∙ advanced_by_sum_three n a.c state 0 w 16 13 (omega arith) (omega arith) (omega arith))))

@@ -1,0 +1,14 @@
+use Rattle.std.proofs.Common.{◌≡◌, ◌-◌, ◌≤◌, length}
+use lib.Ieee.{binary64, add, mul}
+use Rattle.vectors.specs.Memory.{part}
+use Rattle.vectors.specs.MemoryLaws.{Grown}
+use Rattle.physics.specs.Vector.{at}
+use Rattle.physics.proofs.slots.advance_by_sum.Given as goal
+
+-- the advanced vector stands before i
+abbrev pub invariant-loop-i : goal.invariant-loop-i
+invariant-loop-i l =
+    (l.i ≤ l.n) × (length l.w ≡ l.len) × Grown l.to l.initial.i l.i (λ E j. add binary64 (at l.vector j) (mul binary64 l.c (add binary64 (at (part l.sums l.n E) j) (at (part l.rates l.n E) j)))) l.initial.w l.w
+
+abbrev pub decreases-loop-i : goal.decreases-loop-i
+decreases-loop-i l = l.n - l.i

@@ -34,14 +34,14 @@ const ATTEMPTS: usize = 10;
 const MASS: usize = 11;
 
 // The settings that numbers hold, or none.
-#[derive(Drop)]
+#[derive(Clone, Copy)]
 pub(crate) enum Asked {
     Not,
     Is(Settings),
 }
 
 // The record that numbers hold, or none.
-#[derive(Drop)]
+#[derive(Clone, Copy)]
 pub(crate) enum Held {
     Not,
     Is(Record),

@@ -8,14 +8,14 @@ ghost use Rattle.capi.specs.Numbers.{whole_in, switch_in, bit, whole_of, switch_
 use vectors::answer::and_also;
 
 // A whole number of 32 bits, or none.
-#[derive(Drop)]
+#[derive(Clone, Copy)]
 pub(crate) enum Whole {
     Not,
     Is(u32),
 }
 
 // A switch, or none.
-#[derive(Drop)]
+#[derive(Clone, Copy)]
 pub(crate) enum Switch {
     Not,
     Is(bool),

@@ -20,7 +20,7 @@ const TIMEOUT: u32 = 113;
 const SPENT: u32 = 114;
 
 // An advance's number, whether its record is laid out, and what is laid out beside it.
-#[derive(Drop)]
+#[derive(Clone, Copy)]
 pub(crate) struct Told {
     pub number: u32,
     pub lays: bool,

@@ -14,7 +14,7 @@ const LIMITS: [usize; 16] = [0, 0, 0, 0, 0, 0, 0, 0, 0, 0, 0, 0, 0, 0, 4090, 409
 
 // The byte to write, the digits to come, the rest of the operand, how many bytes of the command are left with this one,
 // and where the command ends.
-#[derive(Drop)]
+#[derive(Clone, Copy)]
 struct Pen {
     byte: u8,
     digits: u64,

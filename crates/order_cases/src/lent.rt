@@ -3,7 +3,7 @@ use crate::bytes::{least, with};
 use order_forms::spelling::{Spelled, spell};
 
 // How many bytes were lent, the answer, and a digest of all of them afterwards.
-#[derive(Drop)]
+#[derive(Clone, Copy)]
 pub struct Answered {
     pub room: usize,
     pub answer: Spelled,

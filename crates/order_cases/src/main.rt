@@ -11,7 +11,7 @@ use bytes::{least, with};
 use lent::number;
 
 // How many bytes an order has, and the row of the next one.
-#[derive(Drop)]
+#[derive(Clone, Copy)]
 struct Written {
     length: usize,
     row: usize,

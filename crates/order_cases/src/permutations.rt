@@ -15,7 +15,7 @@ const ROW: [u64; 12] = [
 ];
 
 // What the orders so far add up to: a digest of all their bytes, and for how many the call is as for the first.
-#[derive(Drop)]
+#[derive(Clone, Copy)]
 struct Sum {
     digest: u64,
     same: u64,

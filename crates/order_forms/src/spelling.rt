@@ -7,7 +7,7 @@ ghost use Rattle.order_forms.specs.Writing.{Fits, Copies, command_bytes, first_t
 use run::order::{Places, Read, read_order};
 
 // 01's number and the position; too little room, which is 17; or where the order that was written ends.
-#[derive(Drop)]
+#[derive(Clone, Copy)]
 pub enum Spelled {
     Refused(u8, usize),
     NoRoom,

@@ -7,7 +7,7 @@ use vectors::constants::BH_RADIAL_FACTOR_THRESHOLD;
 use vectors::field_vector::{Position, position_at_or_below};
 
 // A black hole with its mass, or that none has formed.
-#[derive(Drop)]
+#[derive(Clone, Copy)]
 pub enum BlackHole {
     Formed(f64),
     Absent,

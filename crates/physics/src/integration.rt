@@ -25,7 +25,7 @@ use vectors::answer::{Answer, and_also, checked};
 use vectors::grid::{delta as spacing, length_at_discretization};
 
 // `stepped_number` and `stepped_time` in specs/Stepped.antt give each case the number that document 01 has for it, and the next time.
-#[derive(Drop)]
+#[derive(Clone, Copy)]
 pub enum Stepped {
     To(f64),
     RefusedLevel,

@@ -29,7 +29,7 @@ const ROWS: [u64; 144] = [
 
 // Digests of what a call left: the memory that it read, the one that it wrote to and the first 300 numbers of that one; of
 // work memory the state that stands in it at level 5, and the numbers after its 40 vectors.
-#[derive(Drop)]
+#[derive(Clone, Copy)]
 struct Left {
     read: u64,
     written: u64,

@@ -36,7 +36,7 @@ const FACTORS: [u64; 9] = [
 
 // Kinds 0 and 1 start from the initial state, at the base's speed and slowed; kinds 2 and 3 take one step from a forged
 // state, by seeds and by times. The step is factor times the clock's base.
-#[derive(Drop)]
+#[derive(Clone, Copy)]
 struct Case {
     kind: usize,
     level: u32,

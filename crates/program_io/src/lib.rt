@@ -4,7 +4,7 @@ ghost use Rattle.program_io.specs.Input.{Counted};
 ghost use Rattle.program_io.specs.Output.{is_all, Sent};
 
 // What was read: so many bytes, after which a read put this many more into the buffer, none; or as many as the buffer has.
-#[derive(Drop)]
+#[derive(Clone, Copy)]
 pub enum Input {
     Failed,
     Ended(usize, usize),
@@ -12,7 +12,7 @@ pub enum Input {
 }
 
 // What was written: so many bytes, after which a write took this many more, none; or all.
-#[derive(Drop)]
+#[derive(Clone, Copy)]
 pub enum Written {
     Cut(usize, usize),
     All(usize),

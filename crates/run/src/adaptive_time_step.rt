@@ -8,7 +8,7 @@ use vectors::field_vector::min;
 use vectors::grid::delta;
 
 // Adaptive time step with frame boundary detection: its size, and whether it lands on a frame boundary.
-#[derive(Drop)]
+#[derive(Clone, Copy)]
 pub struct TimeStep {
     pub delta: f64,
     pub framed: bool,

@@ -19,7 +19,7 @@ use crate::state_output_builder::frame_size;
 
 // What is left of an order: its run, what is left of the budget of the advance with this index, where the first advance stands, and how many
 // there are.
-#[derive(Drop)]
+#[derive(Clone, Copy)]
 pub struct Job {
     pub run: Record,
     pub rest: u32,
@@ -29,14 +29,14 @@ pub struct Job {
 }
 
 // What a call answers: too little room for its lines, when nothing was called and nothing written; or where they end, with what is left.
-#[derive(Drop)]
+#[derive(Clone, Copy)]
 pub enum Carried {
     NoRoom,
     Last(usize),
     More(usize, Job),
 }
 
-#[derive(Drop)]
+#[derive(Clone, Copy)]
 enum Todo {
     Nothing,
     Next(Job),

@@ -18,7 +18,7 @@ use physics::state_builder::build_initial_state;
 use vectors::grid::length_at_discretization;
 
 // Whether a call is refused, and by which of document 01's numbers.
-#[derive(Drop)]
+#[derive(Clone, Copy)]
 pub(crate) enum Verdict {
     Sound,
     Refused(u8),

@@ -8,7 +8,7 @@ use crate::settings::Settings;
 use vectors::answer::and_also;
 
 // One case for each command byte, and one for what is no command: 01's number 1 or 2.
-#[derive(Drop)]
+#[derive(Clone, Copy)]
 pub enum Command {
     Amplitude(f64),
     Level(u8),
@@ -23,14 +23,14 @@ pub enum Command {
 }
 
 // A command and the position after its operand.
-#[derive(Drop)]
+#[derive(Clone, Copy)]
 pub struct CommandRead {
     pub command: Command,
     pub next: usize,
 }
 
 // Where the operand of each setting stands, where the first command after 07, and how many 08 came. 0 is "not yet": no operand stands there.
-#[derive(Drop)]
+#[derive(Clone, Copy)]
 pub struct Places {
     pub amplitude: usize,
     pub level: usize,
@@ -43,7 +43,7 @@ pub struct Places {
 }
 
 // 01's number and the position, or what the order says.
-#[derive(Drop)]
+#[derive(Clone, Copy)]
 pub enum Read {
     Refused(u8, usize),
     Order(Settings, Places),

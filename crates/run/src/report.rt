@@ -7,7 +7,7 @@ ghost use Rattle.run.specs.Report.{outcome_word, mass_text, spaced, frame_line, 
 use crate::text::{put_decimal, put_float, put_newline, put_word};
 use vectors::answer::fits;
 
-#[derive(Drop)]
+#[derive(Clone, Copy)]
 pub enum Outcome {
     Collapse(f64),
     Broken,
@@ -16,7 +16,7 @@ pub enum Outcome {
 }
 
 // Where the text that was written ends; or there was too little room, and nothing was written. `reported_of` in specs/Report.antt has the number.
-#[derive(Drop)]
+#[derive(Clone, Copy)]
 pub enum Wrote {
     NoRoom,
     To(usize),

@@ -1,7 +1,7 @@
 // What a run is asked for, and the record that stands for it between calls.
 
 // From simulation_config.rs and output_config.rs.
-#[derive(Drop)]
+#[derive(Clone, Copy)]
 pub struct Settings {
     pub amplitude: f64,
     pub level: u32,
@@ -12,7 +12,7 @@ pub struct Settings {
 }
 
 // What begin answers, and what each advance takes and returns.
-#[derive(Drop)]
+#[derive(Clone, Copy)]
 pub struct Record {
     pub settings: Settings,
     pub time: f64,

@@ -18,7 +18,7 @@ use physics::constraints::BlackHole;
 use vectors::answer::and_also;
 
 // What an advance answers; each but a refusal has how many frames it wrote, full first the attempts made, and collapse the mass.
-#[derive(Drop)]
+#[derive(Clone, Copy)]
 pub enum Answer {
     Refused(u8),
     Full(u32, usize),
@@ -28,21 +28,21 @@ pub enum Answer {
     Spent(usize),
 }
 
-#[derive(Drop)]
+#[derive(Clone, Copy)]
 pub struct Advanced {
     pub answer: Answer,
     pub record: Record,
 }
 
 // What a begin answers: a refusal's number, or the record and how many frames it wrote.
-#[derive(Drop)]
+#[derive(Clone, Copy)]
 pub enum Begun {
     Refused(u8),
     Accepted(Record, usize),
 }
 
 // A run while an advance goes on: its record, and how many frames the advance wrote.
-#[derive(Drop)]
+#[derive(Clone, Copy)]
 struct Live {
     run: Record,
     count: usize,

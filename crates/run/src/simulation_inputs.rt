@@ -6,7 +6,7 @@ use crate::settings::Settings;
 use vectors::grid::length_at_discretization;
 
 // Settings that can be run, or 01's number of what is wrong with them.
-#[derive(Drop)]
+#[derive(Clone, Copy)]
 pub enum Fault {
     Sound,
     Refused(u8),

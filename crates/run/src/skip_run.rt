@@ -7,7 +7,7 @@ use crate::settings::{Record, Settings};
 use crate::simulate::{Advanced, Answer, Begun, advance, begin};
 
 // What a run answers: the number that begin or advance refused with, or the outcome, collapse with its mass first, each with steps and time.
-#[derive(Drop)]
+#[derive(Clone, Copy)]
 pub enum Ran {
     NotBegun(u8),
     Refused(u8),

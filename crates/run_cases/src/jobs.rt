@@ -53,7 +53,7 @@ const RULES: [u64; 77] = [
 ];
 
 // n counts within the kind; row is that of the settings.
-#[derive(Drop)]
+#[derive(Clone, Copy)]
 pub struct Job {
     pub kind: u32,
     pub n: usize,
@@ -67,7 +67,7 @@ pub struct Job {
 
 // A call: the record it gets, its budget and its memories; what is put into state memory before; the attempts and the
 // generator that it leaves.
-#[derive(Drop)]
+#[derive(Clone, Copy)]
 pub struct Call {
     pub record: Record,
     pub budget: u32,

@@ -18,7 +18,7 @@ const FRAMES: [u64; 36] = [
 ];
 
 // How many numbers of each memory a call gets, from the first on.
-#[derive(Drop)]
+#[derive(Clone, Copy)]
 pub struct Lent {
     pub state: u64,
     pub work: u64,

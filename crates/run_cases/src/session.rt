@@ -27,7 +27,7 @@ pub const TIMEOUT: u32 = 4;
 pub const SPENT: u32 = 5;
 
 // What a call answers: its word, the refusal's number, the attempts made or the bits of the mass, and the frames written.
-#[derive(Drop)]
+#[derive(Clone, Copy)]
 pub struct Told {
     pub record: Record,
     pub word: u32,
@@ -37,7 +37,7 @@ pub struct Told {
 
 // After a call: what it was lent and told; how many frames were joined and their digest; how many calls were full or
 // refused; the turn that comes, with the rest of its budget; the attempts left and the generator.
-#[derive(Drop)]
+#[derive(Clone, Copy)]
 pub struct Session {
     pub told: Told,
     pub budget: u32,

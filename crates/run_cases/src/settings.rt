@@ -64,7 +64,7 @@ const WRITTEN: [u64; 238] = [
 // The least intervals that the levels 5 to 7 accept, as the oracle finds them.
 const LEAST: [u64; 3] = [0x3F9F07C1F07C1F08, 0x3F8F81F81F81F820, 0x3F7FC07F01FC07F0];
 
-#[derive(Drop)]
+#[derive(Clone, Copy)]
 pub struct Case {
     pub settings: Settings,
     pub attempts: u32,

@@ -10,7 +10,7 @@ use order_forms::spelling::{Spelled, spell};
 use program_io::{Input, Written, is_all, read_input, write};
 
 // A refusal's number; its number and the position; or what was written of the spelling.
-#[derive(Drop)]
+#[derive(Clone, Copy)]
 enum Answer {
     Refused(u8),
     RefusedAt(u8, usize),

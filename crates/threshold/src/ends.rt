@@ -8,7 +8,7 @@ use run::skip_run::Ran;
 use vectors::answer::and_also;
 
 // What a run answers to a search.
-#[derive(Drop)]
+#[derive(Clone, Copy)]
 pub(crate) enum Side {
     Timeout,
     Collapse,
@@ -16,7 +16,7 @@ pub(crate) enum Side {
     Refused(u8),
 }
 
-#[derive(Drop)]
+#[derive(Clone, Copy)]
 pub(crate) enum Verdict {
     Sound,
     Refused(u8),

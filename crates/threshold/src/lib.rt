@@ -20,7 +20,7 @@ const MOST_UNITS: u64 = 4398046511104;
 const MOST_HALVINGS: u32 = 40;
 
 // Why a search stopped.
-#[derive(Drop)]
+#[derive(Clone, Copy)]
 pub enum Why {
     Used,
     Adjacent,
@@ -29,7 +29,7 @@ pub enum Why {
 }
 
 // Both ends, the halvings made, and why the search stopped.
-#[derive(Drop)]
+#[derive(Clone, Copy)]
 pub struct Bracket {
     pub low: u64,
     pub high: u64,
@@ -38,14 +38,14 @@ pub struct Bracket {
 }
 
 // A refusal's number, or the bracket.
-#[derive(Drop)]
+#[derive(Clone, Copy)]
 pub enum Searched {
     Refused(u8),
     Found(Bracket),
 }
 
 // The runs of a search: their settings but for the amplitude, the unit of amplitudes, the budget of each.
-#[derive(Drop)]
+#[derive(Clone, Copy)]
 struct Runs {
     unit: f64,
     settings: Settings,

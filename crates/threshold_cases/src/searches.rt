@@ -13,7 +13,7 @@ pub const CASES: usize = 225;
 // The numbers of state memory that a search of levels 5, 6 and 7 may change, then those of work memory.
 const USED: [u64; 6] = [264, 520, 1032, 1320, 2600, 5160];
 
-#[derive(Drop)]
+#[derive(Clone, Copy)]
 struct Asked {
     unit: f64,
     settings: Settings,

@@ -6,7 +6,7 @@ ghost use Rattle.vectors.specs.Fault.{fault_of, both_fit, all_fit};
 use crate::grid::length_at_discretization;
 
 // `number_of` in specs/Answer.antt gives each case the number that document 01 has for it.
-#[derive(Drop)]
+#[derive(Clone, Copy)]
 pub enum Answer {
     Done,
     RefusedLevel,

@@ -79,7 +79,7 @@ fn negative(x: f64) -> bool
 }
 
 // The index of an element, or that there is none.
-#[derive(Drop)]
+#[derive(Clone, Copy)]
 pub enum Position {
     At(usize),
     Nowhere,

@@ -6,7 +6,7 @@ use vectors::bits::{bits_of, of_bits};
 use vectors::field_vector::Position;
 
 // The bits of the minimum, and the index or NOWHERE.
-#[derive(Drop)]
+#[derive(Clone, Copy)]
 pub struct Found {
     pub minimum: u64,
     pub index: u64,

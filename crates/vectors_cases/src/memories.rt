@@ -17,7 +17,7 @@ pub const NEUMANN: u32 = 4;
 
 pub const EXP_ALL: u32 = 5;
 
-#[derive(Drop)]
+#[derive(Clone, Copy)]
 pub struct Case {
     pub operation: u32,
     pub level: u32,
@@ -32,7 +32,7 @@ pub struct Case {
 }
 
 // The answer of a call, and the digests of the memories after it.
-#[derive(Drop)]
+#[derive(Clone, Copy)]
 pub struct Left {
     pub answer: u64,
     pub vector: u64,

@@ -1,6 +1,6 @@
 -- One attempt, from what the functions ensure that it calls.
 use Rattle.std.proofs.Common.{◌≡◌, ℕ, ◌+◌, ◌-◌, ◌*◌, ◌^◌, ◌<◌, ◌≤◌, Bool, true, false, cond, not, ◌&&◌, List, [], ◌∷◌, ◌++◌, length, take, drop, sym, refl, ap, ◌∙◌, ap₂, append-nil, add-zero, le-mul_of_pos_right, arith}
-use mathlib.Core.Bool.{and_true, and-false, false≢true}
+use mathlib.Core.Bool.{and-true, and-false, false≢true}
 use mathlib.Core.List.{flatten}
 use lib.Ieee.{Float}
 use Rattle.vectors.specs.Grid.{points_of}
@@ -170,7 +170,7 @@ module _ (live : Live) (clock : TimeStep) (memory work frames : List Float) (can
           memory' ≡ cond broken memory (put 0 (part (cell_count s) (cell_count s) w) memory) → (clock.framed && not broken) ≡ false →
           Attempted live memory work frames (record { run = r; count = live.count }) memory' w frames
       attempted_plain true h hr hm f = broken_left (record { told = h; record_is = hr; stored = hm })
-      attempted_plain false h hr hm f = plain_left (record { told = h; record_is = hr; stored = hm }) (sym (and_true clock.framed) ∙ f)
+      attempted_plain false h hr hm f = plain_left (record { told = h; record_is = hr; stored = hm }) (sym (and-true clock.framed) ∙ f)
 
       pub attempted_framed :
           (broken : Bool) → broken ≡ holds_nan (next_in s t w) → r ≡ record_after run t broken →
@@ -179,4 +179,4 @@ module _ (live : Live) (clock : TimeStep) (memory work frames : List Float) (can
           (frames' : List Float) → frames' ≡ put at (frame_of s (state_in s t memory')) frames →
           Attempted live memory work frames (record { run = r; count = live.count + 1 }) memory' w' frames'
       attempted_framed true h hr hm f = absurd (false≢true (sym (and-false clock.framed) ∙ f))
-      attempted_framed false h hr hm f = framed_left (record { told = h; record_is = hr; stored = hm }) (sym (and_true clock.framed) ∙ f)
+      attempted_framed false h hr hm f = framed_left (record { told = h; record_is = hr; stored = hm }) (sym (and-true clock.framed) ∙ f)

@@ -1,0 +1,25 @@
+-- `run::carry_out::outcome_lines` meets its contract.
+use Rattle.std.proofs.Common.{arith, rules}
+use Rattle.run.proofs.Carrying.{size_is, line_room, outcome_writes}
+use Rattle.run.proofs.carry_out.outcome_lines.Goals as goal
+
+pub frames_in-end-requires : goal.frames_in-end-requires
+frames_in-end-requires c =
+    let e = size_is c.args.run.settings c.frame_size.ensures in
+    let pre = c.requires in
+    (pre.0, (rw e pre.1.0, rw e pre.1.1))
+
+pub outcome_in-requires : goal.outcome_in-requires
+outcome_in-requires c =
+    let a = c.args in
+    let pre = c.requires in
+    let e = size_is a.run.settings c.frame_size.ensures in
+    let room = line_room a.count _ a.frames.now (rw e pre.1.1) (rw e pre.1.0) pre.0 c.frames_in-end.ensures in
+    omega arith
+
+pub returns : goal.returns
+returns c =
+    let a = c.args in
+    let pre = c.requires in
+    let e = size_is a.run.settings c.frame_size.ensures in
+    outcome_writes a.count _ a.frames.now pre.1.1 pre.1.0 _ _ _ pre.0 (rw e at c.frames_in-end.ensures) c.outcome_in.ensures

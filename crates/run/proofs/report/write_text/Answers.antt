@@ -1,0 +1,15 @@
+-- `run::report::write_text` meets its contract.
+use Rattle.std.proofs.Common.{sym, refl, ◌∙◌, rules, leb-true}
+use Rattle.run.proofs.Texts.{no_room_lem, has_room}
+use Rattle.run.proofs.report.write_text.Goals as goal
+
+pub put_word-requires : goal.put_word-requires
+put_word-requires c = leb-true _ _ (sym c.fits.ensures ∙ c.if-fits.true)
+
+pub returns-then-fits : goal.returns-then-fits
+returns-then-fits c =
+    let wrote = c.put_word.ensures in
+    has_room _ _ _ (sym c.fits.ensures ∙ c.if-fits.true) wrote.ends wrote.is
+
+pub returns : goal.returns
+returns c = no_room_lem _ _ _ refl (sym c.fits.ensures ∙ c.if-fits.false)

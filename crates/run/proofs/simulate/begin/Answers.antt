@@ -1,0 +1,25 @@
+-- `run::simulate::begin` meets its contract.
+use Rattle.std.proofs.Common.{◌≡◌, length, sym, refl, ap, ◌∙◌, rules}
+use Rattle.run.specs.Answers.{refusal_of}
+use Rattle.run.proofs.Beginning.{kept_beyond, begin_uses_lem, begin_refused}
+use Rattle.run.proofs.simulate.begin.Goals as goal
+
+pub start_run-requires : goal.start_run-requires
+start_run-requires c = sym c.begin_verdict-verdict.ensures ∙ ap refusal_of c.in-Sound.is
+
+pub returns-in-Refused : goal.returns-in-Refused
+returns-in-Refused c =
+    let a = c.args in (
+      begin_refused a.settings a.state.now a.work.now a.frames.now _
+          (sym c.begin_verdict-verdict.ensures ∙ ap refusal_of c.in-Refused.is),
+      refl,
+    )
+
+pub returns-in-Sound : goal.returns-in-Sound
+returns-in-Sound c =
+    let a = c.args in
+    let uses = begin_uses_lem a.settings (length a.state.now) (length a.work.now) (length a.frames.now)
+    (sym c.begin_verdict-verdict.ensures ∙ ap refusal_of c.in-Sound.is) in (
+      c.start_run.ensures.0,
+      kept_beyond uses _ _ c.start_run.ensures.1,
+    )

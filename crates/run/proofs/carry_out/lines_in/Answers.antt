@@ -11,9 +11,9 @@ unfolding frames_told
 frames_in-requires c =
     let e = size_is c.args.run.settings c.frame_size.ensures in
     let known = c.in-Full.is in
-    let fit = rw known at c.requires.1.0 in
-    let large = rw known at c.requires.1.1 in
-    (c.requires.0, (rw e fit, rw e large))
+    let fit = rw known at c.requires.settings_in_bounds.0 in
+    let large = rw known at c.requires.settings_in_bounds.1 in
+    (c.requires.frames_in_bounds, (rw e fit, rw e large))
 
 pub outcome_lines-requires : goal.outcome_lines-requires
 unfolding frames_told

@@ -14,7 +14,7 @@ outcome_in-requires c =
     let a = c.args in
     let pre = c.requires in
     let e = size_is a.run.settings c.frame_size.ensures in
-    let room = line_room a.count _ a.frames.now (rw e pre.1.1) (rw e pre.1.0) pre.0 c.frames_in-end.ensures in
+    let room = line_room a.count _ a.frames.now (rw e pre.settings_in_bounds) (rw e pre.settings_in_bounds.0) pre.frames_in_bounds c.frames_in-end.ensures in
     omega arith
 
 pub returns : goal.returns
@@ -22,4 +22,4 @@ returns c =
     let a = c.args in
     let pre = c.requires in
     let e = size_is a.run.settings c.frame_size.ensures in
-    outcome_writes a.count _ a.frames.now pre.1.1 pre.1.0 _ _ _ pre.0 (rw e at c.frames_in-end.ensures) c.outcome_in.ensures
+    outcome_writes a.count _ a.frames.now pre.settings_in_bounds pre.settings_in_bounds.0 _ _ _ pre.frames_in_bounds (rw e at c.frames_in-end.ensures) c.outcome_in.ensures

@@ -72,10 +72,12 @@ write_frame-requires c =
     )
 
 pub overflow_add-result : goal.overflow_add-result
-overflow_add-result c = record { fits = (let it : (start_of c.before).args.live.count + 1 < 2 ^ 64 = let start = start_of c.before in
-    let s = start.args.live.run.settings in
-    count_fits start.args.live.count (frame_count s) (length start.args.frames.now) (frame_some s start.pre.lent.sound) (room_of c)
-    start.good.1.1.1.1.0.0 in it) }
+overflow_add-result c = record {
+  fits = (let it : (start_of c.before).args.live.count + 1 < 2 ^ 64 = let start = start_of c.before in
+      let s = start.args.live.run.settings in
+      count_fits start.args.live.count (frame_count s) (length start.args.frames.now) (frame_some s start.pre.lent.sound) (room_of c)
+      start.good.1.1.1.1.0.0 in it);
+}
 
 pub shape_of-work-then-and_also : goal.shape_of-work-then-and_also
 shape_of-work-then-and_also c = c.write_frame.auto.1.1.1.0 ∙ (made_of c.before.before.before.before.before.before.before.before.before.before.before.before).step.auto.1.1.1.1.0

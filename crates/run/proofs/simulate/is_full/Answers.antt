@@ -6,7 +6,7 @@ pub overflow_mul-count : goal.overflow_mul-count
 overflow_mul-count c = rw c.frame_size-f.ensures (omega arith)
 
 pub overflow_sub-room : goal.overflow_sub-room
-overflow_sub-room c = rw c.frame_size-f.ensures c.requires.1
+overflow_sub-room c = rw c.frame_size-f.ensures c.requires.s_bound
 
 pub returns : goal.returns
 returns c =

@@ -10,7 +10,7 @@ put_digits-requires c = (omega arith, omega arith, simp length-set (omega arith)
 pub shape_of-out : goal.shape_of-out
 shape_of-out c =
     let a = c.args in
-    c.put_digits.auto.0 ∙ length-set a.out.now a.at 32
+    c.put_digits.auto.out ∙ length-set a.out.now a.at 32
 
 pub returns : goal.returns
 unfolding decimal

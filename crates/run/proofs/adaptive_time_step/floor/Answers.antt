@@ -1,5 +1,5 @@
 -- `run::adaptive_time_step::floor` meets its contract.
-use Rattle.std.proofs.Common.{◌≡◌, ◌+◌, ◌<◌, ℕ, Bool, true, false, T, sym, subst, arith}
+use Rattle.std.proofs.Common.{◌≡◌, ◌+◌, ℕ, true, false, T, sym, subst, arith}
 use lib.Ieee.{Float, binary64, of_bits, lt, neg, fits}
 use Rattle.std.specs.Float.{float_to_unsigned}
 use mir.Syntax.{w64}

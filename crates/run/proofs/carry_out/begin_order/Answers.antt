@@ -1,8 +1,8 @@
 -- `run::carry_out::begin_order` meets its contract.
-use Rattle.std.proofs.Common.{◌≡◌, length, sym, refl, ap, ◌∙◌, arith, rules, leb-true}
+use Rattle.std.proofs.Common.{length, sym, refl, ◌∙◌, arith, leb-true}
 use Rattle.run.specs.Lines.{text_of}
 use Rattle.run.specs.CarryOut.{room_for}
-use Rattle.run.proofs.Carrying.{denied, granted, no_room_begin, eight_begin, refused_begin_lem, order_begin, read_uses_lem, kept}
+use Rattle.run.proofs.Carrying.{no_room_begin, eight_begin, refused_begin_lem, order_begin, read_uses_lem, kept}
 use Rattle.run.proofs.carry_out.begin_order.Goals as goal
 
 pub returns-then-not-has_room : goal.returns-then-not-has_room

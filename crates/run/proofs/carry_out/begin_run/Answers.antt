@@ -1,5 +1,4 @@
 -- `run::carry_out::begin_run` meets its contract.
-use Rattle.std.proofs.Common.{◌≡◌, sym, refl, ap, ◌∙◌, arith, rules}
 use Rattle.run.specs.Lines.{text_of}
 use Rattle.run.proofs.Carrying.{size_is, begun_refused, begun_fits, begun_accepted}
 use Rattle.run.proofs.carry_out.begin_run.Goals as goal

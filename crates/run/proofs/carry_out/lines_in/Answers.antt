@@ -1,5 +1,4 @@
 -- `run::carry_out::lines_in` meets its contract.
-use Rattle.std.proofs.Common.{rules}
 use Rattle.run.specs.Calls.{frames_told}
 use Rattle.run.specs.Report.{meant_by}
 use Rattle.run.specs.Lines.{refusal, text_of, reply_lines}

@@ -1,5 +1,5 @@
 -- `run::carry_out::outcome_lines` meets its contract.
-use Rattle.std.proofs.Common.{arith, rules}
+use Rattle.std.proofs.Common.{arith}
 use Rattle.run.proofs.Carrying.{size_is, line_room, outcome_writes}
 use Rattle.run.proofs.carry_out.outcome_lines.Goals as goal
 

@@ -1,5 +1,4 @@
 -- `run::model::start_state` meets its contract.
-use Rattle.std.proofs.Common.{rules}
 use Rattle.run.proofs.Leaves.{first_made}
 use Rattle.run.proofs.model.start_state.Goals as goal
 

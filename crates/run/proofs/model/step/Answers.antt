@@ -1,5 +1,4 @@
 -- `run::model::step` meets its contract.
-use Rattle.std.proofs.Common.{rules}
 use Rattle.run.proofs.Leaves.{next_made}
 use Rattle.run.proofs.model.step.Goals as goal
 

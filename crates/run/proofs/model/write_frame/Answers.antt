@@ -1,5 +1,4 @@
 -- `run::model::write_frame` meets its contract.
-use Rattle.std.proofs.Common.{rules}
 use Rattle.run.specs.Model.{frame_count, frame_of}
 use Rattle.run.specs.ModelLaws.{sound_settings}
 use Rattle.run.proofs.model.write_frame.Goals as goal
@@ -13,6 +12,6 @@ write_frame-requires c =
 pub returns : goal.returns
 unfolding frame_of
 returns c = record {
-      frames_after = c.write_frame.ensures.0;
-      work_unchanged = c.write_frame.ensures.1;
-    }
+  frames_after = c.write_frame.ensures.0;
+  work_unchanged = c.write_frame.ensures.1;
+}

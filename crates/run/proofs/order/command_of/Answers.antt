@@ -1,5 +1,5 @@
 -- `run::order::command_of` meets its contract.
-use Rattle.std.proofs.Common.{◌≡◌, ℕ, zero, suc, List, sym, refl, ap, ◌∙◌, rules}
+use Rattle.std.proofs.Common.{◌≡◌, ℕ, zero, suc, List, sym, refl, ap, ◌∙◌}
 use Rattle.run.specs.Order.{switch_of, command_of}
 use Rattle.run.specs.declared.order.Command.{Command}
 use Rattle.run.specs.declared.order.Command.TheVariants.{Amplitude, Level, MaxTime, Interval, DxLevel, Advance, Wrong}

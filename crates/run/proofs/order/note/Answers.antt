@@ -1,5 +1,5 @@
 -- `run::order::note` meets its contract.
-use Rattle.std.proofs.Common.{◌≡◌, ℕ, sym, ap, rules}
+use Rattle.std.proofs.Common.{◌≡◌, ℕ, sym, ap}
 use Rattle.run.specs.Order.{noted}
 use Rattle.run.specs.declared.order.Command.{Command}
 use Rattle.run.specs.declared.order.Places.{Places}

@@ -1,6 +1,6 @@
 -- `run::order::read_order` meets its contract.
-use Rattle.std.proofs.Common.{◌≡◌, ℕ, ◌-◌, ◌<◌, ◌≤◌, List, length, refl, ap, arith, rules, eq-eqb, ne_eqb}
-use Rattle.run.specs.Order.{next_at, command_read_at, command_fault}
+use Rattle.std.proofs.Common.{◌≡◌, ℕ, ◌<◌, List, length, refl, ap, arith, rules, eq-eqb, ne_eqb}
+use Rattle.run.specs.Order.{command_read_at, command_fault}
 use Rattle.run.specs.OrderLaws.{next_after}
 use Rattle.run.specs.declared.order.CommandRead.{CommandRead}
 use Rattle.run.specs.declared.order.Places.{Places}

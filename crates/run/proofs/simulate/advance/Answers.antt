@@ -1,5 +1,5 @@
 -- `run::simulate::advance` meets its contract.
-use Rattle.std.proofs.Common.{◌≡◌, length, sym, refl, ap, ◌∙◌, rules}
+use Rattle.std.proofs.Common.{length, sym, refl, ap, ◌∙◌}
 use Rattle.run.specs.OneCall.{advance_refused, advance_runs}
 use Rattle.run.specs.Answers.{refusal_of}
 use Rattle.run.proofs.Beginning.{kept_beyond, advance_uses_lem}

@@ -1,5 +1,5 @@
 -- `run::simulate::attempt_on` meets its contract.
-use Rattle.std.proofs.Common.{ℕ, ◌+◌, ◌*◌, ◌^◌, ◌<◌, ◌≤◌, length, sym, ap, ◌∙◌, le_trans, le_of_eq, arith}
+use Rattle.std.proofs.Common.{ℕ, ◌*◌, ◌^◌, ◌<◌, length, sym, ap, ◌∙◌, le_trans, le_of_eq, arith}
 use Rattle.run.specs.Model.{frame_count}
 use Rattle.run.specs.ModelLaws.{frame_some}
 use Rattle.run.proofs.OneAttempt.{frame_due, at_fits, count_fits, at_room, attempted_plain, attempted_framed}

@@ -1,6 +1,6 @@
 -- `run::simulate::attempts` meets its contract.
-use Rattle.std.proofs.Common.{◌≡◌, ℕ, ◌-◌, sym, refl, ap, ◌∙◌, arith, rules, falls}
-use Rattle.run.proofs.Attempts.{GoesOn, starts, live_lent, live_fits, state_long, frames_long, ended_is, full_is, made_fits, can_attempt, goes_on_lem, ends_ended, ends_full, ends_spent, work_left}
+use Rattle.std.proofs.Common.{sym, ◌∙◌, falls}
+use Rattle.run.proofs.Attempts.{starts, live_lent, live_fits, state_long, frames_long, ended_is, full_is, made_fits, can_attempt, goes_on_lem, ends_ended, ends_full, ends_spent, work_left}
 use Rattle.run.proofs.simulate.attempts.Goals as goal
 
 pub loop-made-init : goal.loop-made-init
@@ -31,9 +31,9 @@ returns-then-has_ended c =
 
 pub clock_at-clock-requires : goal.clock_at-clock-requires
 clock_at-clock-requires c = let l = live_lent _ _ _ _ _ c.requires c.loop-made.invariant.holds in record {
-      s_value = l.sound;
-      s_in_bounds = l.state_fits;
-    }
+  s_value = l.sound;
+  s_in_bounds = l.state_fits;
+}
 
 pub is_full-requires : goal.is_full-requires
 is_full-requires c =
@@ -84,7 +84,7 @@ loop-made-preserved c =
     let going = sym (ended_is _ _ _ _ _ p i.holds) ∙ sym c.has_ended.ensures ∙ c.if-has_ended.false in
     goes_on_lem _ _ _ _ _ p i c.loop-made-test.true going
     (sym (full_is _ _ _ _ _ p i.holds c.clock_at-clock.result c.clock_at-clock.ensures going) ∙ sym c.is_full.ensures ∙ c.if-is_full.false)
-    made.ensures made.auto.1.1.1.0
+    made.ensures made.auto.work
 
 pub outcome_of-outcome-requires-2 : goal.outcome_of-outcome-requires-2
 outcome_of-outcome-requires-2 c = (live_lent _ _ _ _ _ c.requires c.loop-made.invariant.holds).state_fits

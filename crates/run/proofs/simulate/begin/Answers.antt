@@ -1,5 +1,5 @@
 -- `run::simulate::begin` meets its contract.
-use Rattle.std.proofs.Common.{◌≡◌, length, sym, refl, ap, ◌∙◌, rules}
+use Rattle.std.proofs.Common.{length, sym, refl, ap, ◌∙◌}
 use Rattle.run.specs.Answers.{refusal_of}
 use Rattle.run.proofs.Beginning.{kept_beyond, begin_uses_lem, begin_refused}
 use Rattle.run.proofs.simulate.begin.Goals as goal

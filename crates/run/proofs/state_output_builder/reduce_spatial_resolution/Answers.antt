@@ -1,7 +1,7 @@
 -- `run::state_output_builder::reduce_spatial_resolution` meets its contract.
-use Rattle.std.proofs.Common.{◌≡◌, ◌-◌, ◌*◌, ◌<◌, ◌≤◌, length, get_or, refl, arith, length-set, rules}
+use Rattle.std.proofs.Common.{refl, arith, length-set, rules}
 use lib.Ieee.{nan}
-use Rattle.vectors.specs.MemoryLaws.{Grown, grown_none, grown_step, grown_put, length_tab}
+use Rattle.vectors.specs.MemoryLaws.{grown_none, grown_step, grown_put, length_tab}
 use Rattle.run.proofs.state_output_builder.reduce_spatial_resolution.Goals as goal
 
 pub loop-j-init : goal.loop-j-init

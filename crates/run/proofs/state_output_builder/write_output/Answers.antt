@@ -1,5 +1,5 @@
 -- `run::state_output_builder::write_output` meets its contract.
-use Rattle.std.proofs.Common.{◌≡◌, length, refl, ◌∙◌, arith, length-set, rules}
+use Rattle.std.proofs.Common.{◌≡◌, length, refl, ◌∙◌, arith, length-set}
 use Rattle.run.specs.FrameWriting.{wrote_output}
 use Rattle.run.specs.WriteLaws.{wrote-length, wrote_one}
 use Rattle.run.proofs.state_output_builder.write_output.Goals as goal

@@ -31,7 +31,7 @@ fn case(rt: &impl Print, level: u32, kind: u32) -> io::Result<()>
         [level as u64, kind as u64, 0, 0, 0, 0, 0],
     )?;
     lines::ends(rt, &radial_factor[0..n], &mass[0..n])?;
-    print!(rt; "\n")
+    println!(rt)
 }
 
 // A mass that has no number where one is asked for.

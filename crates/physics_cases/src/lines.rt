@@ -46,9 +46,9 @@ pub fn state(rt: &impl Print, time: f64, broken: bool, vectors: &[f64]) -> io::R
         &vectors[mass..radial_factor],
     )?;
     if broken {
-        print!(rt; " nan yes\n")
+        println!(rt; " nan yes")
     } else {
-        print!(rt; " nan no\n")
+        println!(rt; " nan no")
     }
 }
 

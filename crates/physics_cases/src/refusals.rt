@@ -61,7 +61,8 @@ fn run(rt: &impl Print, call: u64, level: u64, of_from: u64, of_to: u64) -> io::
 
 // Makes a call on as much of the memories as is lent.
 fn make(call: u64, level: u64, of_from: u64, of_to: u64, from: &[f64], to: &mut [f64]) -> Stepped
-    requires { (300 ≤ length from.now) × (1400 ≤ length to.old) }
+    requires from_long { 300 ≤ length from.now }
+    requires to_long { 1400 ≤ length to.old }
 {
     let level = (level % 1000) as u32;
     let of_from = memories::at_most(300, of_from as usize);

@@ -61,7 +61,8 @@ pub fn all(rt: &impl Print) -> io::Result<()> {
 
 // As much of the memories as the level wants.
 fn lend(rt: &impl Print, case: Case, state: &mut [f64], work: &mut [f64]) -> io::Result<()>
-    requires { (65544 ≤ length state.old) × (327720 ≤ length work.old) }
+    requires state_long { 65544 ≤ length state.old }
+    requires work_long { 327720 ≤ length work.old }
 {
     let n = memories::at_most(8193, length_at_discretization(case.level));
     let of_state = 8 * n;
@@ -89,7 +90,9 @@ fn case_at(i: usize) -> Case
 
 // From the initial state with the amplitude at a place of the table.
 fn initial(kind: usize, level: usize, at: usize, last: u32) -> Case
-    requires { (kind < 2) × (level < 17) × (at < 17) }
+    requires kind_in { kind < 2 }
+    requires level_in { level < 17 }
+    requires at_in { at < 17 }
 {
     Case {
         kind: kind,
@@ -105,7 +108,8 @@ fn initial(kind: usize, level: usize, at: usize, last: u32) -> Case
 
 // From a forged state, at the time and by the step at a place of the tables.
 fn forged(kind: usize, level: usize, seed: usize, replaced: usize, at: usize) -> Case
-    requires { (level < 17) × (at < 9) }
+    requires level_in { level < 17 }
+    requires at_in { at < 9 }
 {
     Case {
         kind: kind,
@@ -141,7 +145,8 @@ fn delta(case: Case) -> f64 {
 
 // The number of the run's last step, from the state that this leaves in work memory.
 fn begin(rt: &impl Print, case: Case, from: usize, to: usize, work: &mut [f64]) -> io::Result<u32>
-    requires { (from ≤ to) × (to ≤ length work.old) }
+    requires ordered { from ≤ to }
+    requires within { to ≤ length work.old }
 {
     if case.kind < 2 {
         build_initial_state(case.level, case.amplitude, work);

@@ -5,8 +5,8 @@ ghost use Rattle.std.specs.Prelude.{◌≡◌, length};
 ghost use Rattle.program_io.specs.Input.{Counted};
 ghost use Rattle.program_io.specs.Output.{is_all, Sent};
 
-use std::io;
-use std::io::{Read, Write};
+use std::io::{Cursor, Read, Write};
+use std::{io, str};
 
 // What was read: so many bytes, after which a read put this many more into the buffer, none; or as many as the buffer has.
 #[derive(Clone, Copy)]
@@ -112,5 +112,17 @@ pub fn is_all(written: Written) -> bool
     match written {
         Written::Cut(_, _) => false,
         Written::All(_) => true,
+    }
+}
+
+// Standard error says what failed, and why in the system's words, without the number that `{error}` adds.
+pub fn tell_failure(rt: &impl Eprint, what: &str, error: io::Error) -> io::Result<()> {
+    let mut text = Cursor::new([0u8; 256]);
+    write!(text, "{error}")?;
+    let bytes = text.into_inner();
+    let text = str::from_utf8(&bytes).unwrap_or("");
+    match text.split_once(" (os error ") {
+        Some((words, _)) => eprintln!(rt; "{what}: {words}"),
+        None => eprintln!(rt; "{what}: {error}"),
     }
 }

@@ -205,12 +205,7 @@ module _ (order : List ℕ) (memory work frames : List Float) (out : List ℕ) w
         subst (λ (c : AfterCall). calls_left order (next_of c.answer) < calls_of order j) (sym q)
         (go_on_falls j order memory' work' frames' out' (subst (λ (k : ℕ). FairNext k (some j)) (sym l) g.fair))
 
--- ---- the program's loop
--- whether a job is left, by the loop's test
-pub went : (written more test : Bool) → test ≡ (written && more) → test ≡ true → more ≡ true
-went true more test e h = sym e ∙ h
-went false more test e h = absurd (false≢true (sym e ∙ h))
-
+-- ---- the program's loop: no job is left where its test failed after all was written
 pub stopped : (written more test : Bool) → test ≡ (written && more) → test ≡ false → written ≡ true → more ≡ false
 stopped true more test e h w = sym e ∙ h
 stopped false more test e h w = absurd (false≢true w)

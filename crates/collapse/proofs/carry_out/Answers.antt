@@ -1,5 +1,6 @@
 -- `collapse::carry_out` meets its contract.
-use Rattle.std.proofs.Common.{◌≡◌, ℕ, subst, arith}
+use Rattle.std.proofs.Common.{◌≡◌, ℕ, true, subst, arith}
+use Rattle.collapse.specs.Turns.{is_more}
 use Rattle.program_io.specs.declared.Written.{Written}
 use Rattle.program_io.specs.Output.{Sent}
 use Rattle.collapse.proofs.Turns.{going_begin, going_on, going_falls, going_ended, begun_ends, next_ends, went, stopped}
@@ -40,7 +41,7 @@ pub loop-written-smaller : goal.loop-written-smaller
 loop-written-smaller g c =
     let l = c.loop-written in
     going_falls c.args.input.now c.args.state.now c.args.work.now c.args.frames.now c.args.out.now l.state l.work l.frames l.out l.call
-    (went _ _ _ c.goes_on.ensures c.loop-written-test.true) (omega arith) l.invariant.4
+    (let more : is_more l.call ≡ true = grind (arith, c.goes_on.ensures, c.loop-written-test.true) in more) (omega arith) l.invariant.4
     c.next_call-call.result _ _ _ c.next_call-call.ensures
 
 pub loop-written-preserved : goal.loop-written-preserved
@@ -51,7 +52,7 @@ loop-written-preserved g c = (
   omega arith,
   let l = c.loop-written in
       going_on c.args.input.now c.args.state.now c.args.work.now c.args.frames.now c.args.out.now l.state l.work l.frames l.out l.call
-      (went _ _ _ c.goes_on.ensures c.loop-written-test.true) (omega arith) (omega arith) l.invariant.4
+      (let more : is_more l.call ≡ true = grind (arith, c.goes_on.ensures, c.loop-written-test.true) in more) (omega arith) (omega arith) l.invariant.4
       c.next_call-call.result _ _ _ c.next_call-call.ensures,
   sent c.send-written-in-loop-written.result c.end_of-in-loop-written.ensures c.send-written-in-loop-written.ensures,
 )

@@ -4,7 +4,7 @@
 
 ghost use Rattle.std.specs.Prelude.{◌≤◌, ◌≡◌, length, take};
 ghost use Rattle.program_io.specs.Input.{lent_input};
-ghost use Rattle.program_io.specs.Output as output;
+ghost use Rattle.program_io.specs.Output.{Sent};
 ghost use Rattle.spell.specs.Reply.{spelled, reply_of};
 ghost use Rattle.spell.specs.Answers.{Answers};
 
@@ -72,7 +72,7 @@ fn write_spelling(output: &mut impl Write, order: &[u8]) -> Answer
 // Writes bytes that are the reply to the order.
 fn send(output: &mut impl Write, order: &[u8], bytes: &[u8]) -> Written
     requires { reply_of order.now ≡ spelled bytes.now }
-    ensures { output.Sent (length bytes.now) result }
+    ensures { Sent (length bytes.now) result }
 {
     write(output, bytes)
 }

@@ -3,7 +3,7 @@ use Rattle.std.proofs.Common.{◌≡◌, ℕ, true, subst, arith}
 use Rattle.collapse.specs.Turns.{is_more}
 use Rattle.program_io.specs.declared.Written.{Written}
 use Rattle.program_io.specs.Output.{Sent}
-use Rattle.collapse.proofs.Turns.{going_begin, going_on, going_falls, going_ended, begun_ends, next_ends, went, stopped}
+use Rattle.collapse.proofs.Turns.{going_begin, going_on, going_falls, going_ended, begun_ends, next_ends, stopped}
 use Rattle.collapse.proofs.carry_out.Goals as goal
 
 -- what was written, by where the call's lines end

@@ -44,6 +44,7 @@ fn print_reply(rt: &HostRuntime, buffer: &[u8], count: usize) -> io::Result<()>
 }
 
 // Replies to the first count bytes: 8 above 4,096 of them, before all else.
+#[tactic(auto, using(crate::proofs::Replies::answers_long))]
 fn reply(output: &mut impl Write, buffer: &[u8], count: usize) -> Answer
     requires buffer_len { length buffer.now ≡ lent_input }
     requires count_in_bounds { count ≤ length buffer.now }

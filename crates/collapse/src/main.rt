@@ -19,7 +19,7 @@ fn main(rt: HostRuntime) -> io::Result<()> {
     let mut input = [0u8; 4097];
     let read = read_input(&mut stdin, &mut input);
     match read {
-        Input::Failed => tell_failure(&rt, "collapse: standard input", stdin.error()),
+        Input::Failed => tell_failure(&rt, "collapse: standard input", stdin.error),
         Input::Ended(count, _) => print_answer(&rt, &input, count),
         Input::Full(count) => print_answer(&rt, &input, count),
     }
@@ -32,7 +32,7 @@ fn print_answer(rt: &HostRuntime, buffer: &[u8], count: usize) -> io::Result<()>
 {
     let mut stdout = Noted::new(rt.stdout());
     let written = answer(&mut stdout, buffer, count);
-    report(rt, written, stdout.error())
+    report(rt, written, stdout.error)
 }
 
 // Carries out the order in the first count bytes: lends for level 7, 8,192 frame numbers and their lines.

@@ -26,20 +26,18 @@ pub enum Written {
 // A stream, and the error of its last call that failed; before any, that of errno 0, "Success".
 #[derive(Drop)]
 pub struct Noted<S> {
-    stream: S,
-    error: io::Error,
+    pub stream: S,
+    pub error: io::Error,
 }
 
 impl<S> Noted<S> {
-    pub fn new(stream: S) -> Noted<S> {
+    pub fn new(stream: S) -> Noted<S>
+        ensures { result.stream ≡ stream }
+    {
         Noted {
             stream,
             error: io::Error::from_raw_os_error(0),
         }
-    }
-
-    pub fn error(&self) -> io::Error {
-        self.error
     }
 }
 

@@ -27,7 +27,7 @@ fn main(rt: HostRuntime) -> io::Result<()> {
     let mut input = [0u8; 4097];
     let read = read_input(&mut stdin, &mut input);
     match read {
-        Input::Failed => tell_failure(&rt, "spell: standard input", stdin.error()),
+        Input::Failed => tell_failure(&rt, "spell: standard input", stdin.error),
         Input::Ended(count, _) => print_reply(&rt, &input, count),
         Input::Full(count) => print_reply(&rt, &input, count),
     }
@@ -40,7 +40,7 @@ fn print_reply(rt: &HostRuntime, buffer: &[u8], count: usize) -> io::Result<()>
 {
     let mut stdout = Noted::new(rt.stdout());
     let answer = reply(&mut stdout, buffer, count);
-    report(rt, answer, stdout.error())
+    report(rt, answer, stdout.error)
 }
 
 // Replies to the first count bytes: 8 above 4,096 of them, before all else.

@@ -1,5 +1,5 @@
 -- The loop of an advance: its invariant, and its three ends.
-use Rattle.std.proofs.Common.{◌≡◌, ℕ, zero, suc, ◌+◌, ◌-◌, ◌*◌, ◌^◌, ◌<◌, ◌≤◌, Bool, true, false, cond, not, ◌&&◌, ◌||◌, eqb, ltb, List, [], ◌∷◌, ◌++◌, length, take, drop, sym, refl, ap, ◌∙◌, subst, ap₂, true≢false, append-nil, le_trans, le_of_eq, add-zero, suc-mul, add-one, arith, length-append, ltb-false, ne_eqb, eqb-true}
+use Rattle.std.proofs.Common.{◌≡◌, ℕ, suc, ◌+◌, ◌-◌, ◌*◌, ◌^◌, ◌<◌, ◌≤◌, Bool, true, false, cond, ◌&&◌, ◌||◌, eqb, ltb, List, [], ◌∷◌, ◌++◌, length, drop, sym, refl, ap, ◌∙◌, ap₂, append-nil, le_trans, le_of_eq, add-zero, suc-mul, add-one, arith, length-append, ltb-false, ne_eqb}
 use mathlib.Core.Bool.{false≢true}
 use mathlib.Core.List.{flatten}
 use mathlib.Core.Option.{none}
@@ -12,16 +12,16 @@ use Rattle.run.specs.declared.settings.Settings.{Settings}
 use Rattle.run.specs.declared.settings.Record.{Record}
 use Rattle.run.specs.declared.adaptive_time_step.TimeStep.{TimeStep}
 use Rattle.run.specs.declared.simulate.Live.{Live}
-use Rattle.run.specs.Model.{fault_at, cell_count, work_count, frame_count, state_in, next_state, holds_nan, frames_next, frame_of}
+use Rattle.run.specs.Model.{work_count, frame_count, state_in, next_state, holds_nan, frames_next, frame_of}
 use Rattle.run.specs.PlainRun.{Machine, has_ended, outcome_of, attempt}
-use Rattle.run.specs.PlainRunLaws.{after, attempt_after, attempt_breaks, attempt_steps, Formed, attempt_formed}
+use Rattle.run.specs.PlainRunLaws.{after, attempt_after, Formed, attempt_formed}
 use Rattle.run.specs.Tally.{Reply, full, ran}
 use Rattle.run.specs.Calls.{record_of, machine_of, with_state, with_frames, is_full, Stop, attempts_from, AfterAdvance, left_by, is_idle, advance_refusal}
 use Rattle.run.specs.CallsLaws.{from_full, from_more, from_ended}
 use Rattle.run.specs.FrameLaws.{none, put_nothing, put_again, put_frames, length-put_front, length_frames}
-use Rattle.run.specs.Answers.{Lent, ClockOf, CanAttempt, attempted, Attempted}
+use Rattle.run.specs.Answers.{Lent, ClockOf, CanAttempt, Attempted}
 use Rattle.run.proofs.Leaves.{time_in}
-use Rattle.run.proofs.Refusals.{Taken, taken}
+use Rattle.run.proofs.Refusals.{taken}
 use Rattle.run.proofs.OneAttempt.{keeps_state}
 
 -- ---- one attempt of a machine

@@ -1,5 +1,5 @@
 -- A begin from what the functions ensure that it calls, and what a call says of its work memory.
-use Rattle.std.proofs.Common.{◌≡◌, ℕ, ◌+◌, ◌*◌, ◌≤◌, Bool, true, false, cond, List, [], ◌∷◌, length, drop, sym, refl, ap, ◌∙◌, append-nil}
+use Rattle.std.proofs.Common.{◌≡◌, ℕ, ◌≤◌, Bool, true, false, cond, List, [], ◌∷◌, length, drop, sym, refl, ap, ◌∙◌, append-nil}
 use mathlib.Core.List.{flatten}
 use mathlib.Core.Option.{Option, none, some}
 use lib.Ieee.{Float}
@@ -7,7 +7,7 @@ use Rattle.vectors.specs.Memory.{part, put}
 use Rattle.physics.specs.State.{State}
 use Rattle.run.specs.declared.settings.Settings.{Settings}
 use Rattle.run.specs.declared.settings.Record.{Record}
-use Rattle.run.specs.Model.{cell_count, work_count, frame_count, state_in, first_state, holds_nan, frame_of}
+use Rattle.run.specs.Model.{cell_count, work_count, state_in, first_state, holds_nan, frame_of}
 use Rattle.run.specs.PlainRun.{Machine, option, start}
 use Rattle.run.specs.Calls.{record_of, with_state, with_frames, refused_begin, accepted, AfterBegin, lent_refusal, begin_refusal, begin_of, begin_uses, is_idle, advance_refusal, advance_uses}
 use Rattle.run.specs.DemandProof.{begin_some, begin_none}

@@ -1,5 +1,5 @@
 -- Lines of a call in lent bytes, one after another, and the ways that a call takes.
-use Rattle.std.proofs.Common.{◌≡◌, ℕ, zero, suc, ◌+◌, ◌-◌, ◌*◌, ◌/◌, ◌<◌, ◌≤◌, Bool, true, false, cond, leb, List, [], ◌∷◌, ◌++◌, map, length, take, drop, sym, refl, ap, ◌∙◌, ap₂, mul-le-mul_right, suc-mul, arith, length-append, length-drop, length-take-le, drop-drop, le-leb, leb-false, leb-true}
+use Rattle.std.proofs.Common.{◌≡◌, ℕ, zero, suc, ◌+◌, ◌-◌, ◌*◌, ◌/◌, ◌<◌, ◌≤◌, Bool, true, false, leb, List, [], ◌∷◌, ◌++◌, map, length, take, drop, sym, refl, ap, ◌∙◌, ap₂, mul-le-mul_right, suc-mul, arith, length-append, length-drop, length-take-le, drop-drop, le-leb, leb-false, leb-true}
 use lib.Ieee.{Float}
 use borrow.Author.Tests.{lt-leb}
 use Rattle.vectors.specs.Memory.{put}
@@ -7,7 +7,7 @@ use Rattle.vectors.specs.MemoryLaws.{length-put}
 use Rattle.run.specs.Calls.{frames_in}
 use Rattle.run.specs.WriteLaws.{put_nil, put-append}
 use Rattle.run.specs.Report.{frame_line}
-use Rattle.run.specs.Lines.{Line, frame, text_of, texts_of}
+use Rattle.run.specs.Lines.{frame, text_of, texts_of}
 use Rattle.run.specs.LinesLaws.{texts_of-append, texts_of_one, each_frames_in, length-frames_in, frames_room}
 use Rattle.run.specs.OrderLinesLaws.{map-append}
 use Rattle.run.specs.CarryOut.{room_for, Writes}

@@ -1,7 +1,6 @@
 -- The ways of a call of an order: from what its parts promise to what it answers and leaves.
-use Rattle.std.proofs.Common.{◌≡◌, ℕ, ◌+◌, ◌-◌, ◌*◌, ◌<◌, ◌≤◌, Bool, true, false, cond, not, ltb, leb, List, [], ◌∷◌, ◌++◌, map, length, drop, sym, refl, ap, ◌∙◌, subst, ap₂, true≢false, arith, length-append, le-ltb, lt-ltb, leb-true}
-use mathlib.Core.Bool.{false≢true}
-use mathlib.Core.Option.{Option, none, some}
+use Rattle.std.proofs.Common.{◌≡◌, ℕ, ◌+◌, ◌*◌, ◌<◌, ◌≤◌, true, false, List, [], ◌∷◌, ◌++◌, map, length, drop, sym, refl, ap, ◌∙◌, subst, ap₂, arith, length-append, le-ltb, lt-ltb, leb-true}
+use mathlib.Core.Option.{Option, none}
 use lib.Ieee.{Float}
 use Rattle.vectors.specs.Memory.{put}
 use Rattle.run.specs.declared.settings.Settings.{Settings}
@@ -14,12 +13,12 @@ use Rattle.run.specs.declared.simulate.Begun.{Begun}
 use Rattle.run.specs.declared.simulate.Begun.TheVariants as begun
 use Rattle.run.specs.declared.carry_out.Job.{Job}
 use Rattle.run.specs.declared.carry_out.Carried.{Carried}
-use Rattle.run.specs.declared.carry_out.Carried.TheVariants.{NoRoom, Last, More}
+use Rattle.run.specs.declared.carry_out.Carried.TheVariants.{Last}
 use Rattle.run.specs.Model.{frame_count}
 use Rattle.run.specs.Frames.{frame_size_of}
 use Rattle.run.specs.Outcome.{Outcome}
 use Rattle.run.specs.Tally.{Reply, refused, full, ran}
-use Rattle.run.specs.Calls.{refused_begin, accepted, AfterBegin, begin_of, begin_uses, AfterAdvance, advance_of, advance_uses, frames_told, frames_in}
+use Rattle.run.specs.Calls.{accepted, AfterBegin, begin_of, AfterAdvance, advance_of, advance_uses, frames_told, frames_in}
 use Rattle.run.specs.AdvanceLaws.{Leaves, advance_leaves}
 use Rattle.run.specs.BeginLaws.{Begins, begin_leaves}
 use Rattle.run.specs.Answers.{reply_of, began_of, after_begin, after_advance}
@@ -28,20 +27,12 @@ use Rattle.run.specs.WriteLaws.{put-append}
 use Rattle.run.specs.Lines.{Line, frame, outcome, refusal, refusal_at, text_of, texts_of, reply_lines}
 use Rattle.run.specs.LinesLaws.{Long, texts_of-append, texts_of_one}
 use Rattle.run.specs.Order.{read_order}
-use Rattle.run.specs.CarryOut.{left_after, advance_at, Turn, advance_turn, begin_turn, Answered, refused_call, printed, answered_by, AfterCall, after_carried, room_for, has_room, after_turn, stayed, go_on_of, go_on_uses, begin_read, begin_order_of, begin_order_uses, read_uses, Fits, Writes}
+use Rattle.run.specs.CarryOut.{left_after, advance_at, Turn, advance_turn, begin_turn, printed, answered_by, AfterCall, after_carried, room_for, has_room, after_turn, stayed, go_on_of, go_on_uses, begin_read, begin_order_of, begin_order_uses, read_uses, Fits, Writes}
 use Rattle.run.proofs.CarryOut.{frames_text, frames_text_room, writes_length}
 
 pub size_is : {n : ℕ} (s : Settings) → n ≡ frame_size_of s → n ≡ frame_count s
 unfolding frame_count
 size_is s e = e
-
-pub denied : (b : Bool) → not b ≡ true → b ≡ false
-denied true h = absurd (false≢true h)
-denied false h = refl
-
-pub granted : (b : Bool) → not b ≡ false → b ≡ true
-granted true h = refl
-granted false h = absurd (true≢false h)
 
 -- of work memory the same numbers stay, by an equal count
 pub kept : {m n : ℕ} → m ≡ n → (before after : List Float) → drop n after ≡ drop n before → drop m after ≡ drop m before

@@ -1,13 +1,13 @@
 -- Whether a run has ended, and its outcome, from the tests that the code makes in their order.
-use Rattle.std.proofs.Common.{◌≡◌, ℕ, Bool, true, false, cond, ◌&&◌, ◌||◌, leb, sym, refl, ap, ◌∙◌}
+use Rattle.std.proofs.Common.{◌≡◌, ℕ, Bool, true, false, cond, ◌&&◌, leb, sym}
 use mathlib.Core.Bool.{or-true, or-false}
-use mathlib.Core.Option.{Option, none, some}
+use mathlib.Core.Option.{none, some}
 use lib.Ieee.{Float}
 use Rattle.physics.specs.State.{State}
 use Rattle.run.specs.declared.settings.Settings.{Settings}
 use Rattle.run.specs.Model.{mass_at, is_late}
 use Rattle.run.specs.Outcome.{collapse, broke, timeout, spent}
-use Rattle.run.specs.PlainRun.{option, is_some, ended, outcome}
+use Rattle.run.specs.PlainRun.{ended, outcome}
 
 module _ (s : Settings) (a : State) (steps : ℕ) (broken : Bool) where
   pub ended_mass : (m : Float) → some m ≡ mass_at a → true ≡ ended s a steps broken

@@ -1,6 +1,6 @@
 -- What the functions of src/model.rt return, from what the functions of the layers below ensure.
-use Rattle.std.proofs.Common.{◌≡◌, ℕ, ◌+◌, ◌-◌, ◌*◌, ◌<◌, ◌≤◌, Bool, true, false, cond, ◌&&◌, ◌||◌, eqb, leb, List, length, take, drop, sym, refl, ap, ◌∙◌, subst, ap₂, arith, take-take, le-leb}
-use mathlib.Core.Option.{Option, none}
+use Rattle.std.proofs.Common.{◌≡◌, ℕ, ◌-◌, ◌*◌, ◌≤◌, Bool, true, ◌&&◌, List, length, take, drop, sym, refl, ap, ◌∙◌, subst, ap₂, arith, take-take, le-leb}
+use mathlib.Core.Option.{none}
 use lib.Ieee.{Float, binary64, of_bits, add, lt}
 use Rattle.vectors.specs.declared.answer.Answer.{Answer}
 use Rattle.vectors.specs.Answer.{number_of, left_by, left_at, left_is}
@@ -20,7 +20,7 @@ use Rattle.physics.specs.Stepped.{room_to_step}
 use Rattle.physics.specs.WorkAfter.{WorkAfter, Made}
 use Rattle.physics.specs.WorkLaws.{stepped_time_lem}
 use Rattle.physics.specs.Store.{both_hold, stored_of}
-use Rattle.physics.specs.Nan.{any_nan, state_has_nan}
+use Rattle.physics.specs.Nan.{any_nan}
 use Rattle.physics.specs.NanLaws.{any_nan-lay_out}
 use Rattle.physics.specs.BlackHole.{black_hole_mass_of, state_black_hole_mass}
 use Rattle.run.specs.declared.settings.Settings.{Settings}

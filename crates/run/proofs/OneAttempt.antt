@@ -1,20 +1,20 @@
 -- One attempt, from what the functions ensure that it calls.
-use Rattle.std.proofs.Common.{◌≡◌, ℕ, ◌+◌, ◌-◌, ◌*◌, ◌^◌, ◌<◌, ◌≤◌, Bool, true, false, cond, not, ◌&&◌, List, [], ◌∷◌, ◌++◌, length, take, drop, sym, refl, ap, ◌∙◌, ap₂, append-nil, add-zero, le-mul_of_pos_right, arith}
+use Rattle.std.proofs.Common.{◌≡◌, ℕ, ◌+◌, ◌*◌, ◌^◌, ◌<◌, ◌≤◌, Bool, true, false, cond, not, ◌&&◌, List, [], ◌∷◌, ◌++◌, length, drop, sym, refl, ap, ◌∙◌, ap₂, append-nil, add-zero, le-mul_of_pos_right, arith}
 use mathlib.Core.Bool.{and-true, and-false, false≢true}
 use mathlib.Core.List.{flatten}
 use lib.Ieee.{Float}
 use Rattle.vectors.specs.Grid.{points_of}
 use Rattle.vectors.specs.Memory.{part, put}
 use Rattle.vectors.specs.MemoryLaws.{length_part}
-use Rattle.physics.specs.State.{State, lay_out}
+use Rattle.physics.specs.State.{State}
 use Rattle.physics.specs.StateLaws.{Sized, lay_out-state_in, sized_state_in, state_in-put}
 use Rattle.run.specs.declared.settings.Settings.{Settings}
 use Rattle.run.specs.declared.settings.Record.{Record}
 use Rattle.run.specs.declared.adaptive_time_step.TimeStep.{TimeStep}
 use Rattle.run.specs.declared.simulate.Live.{Live}
-use Rattle.run.specs.Model.{cell_count, work_count, frame_count, state_in, delta_next, step_of, next_state, holds_nan, frames_next, frame_of}
-use Rattle.run.specs.PlainRun.{Machine, attempt}
-use Rattle.run.specs.PlainRunLaws.{broken_machine, stepped_machine, attempt_breaks, attempt_steps}
+use Rattle.run.specs.Model.{cell_count, work_count, frame_count, state_in, step_of, next_state, holds_nan, frames_next, frame_of}
+use Rattle.run.specs.PlainRun.{Machine}
+use Rattle.run.specs.PlainRunLaws.{attempt_breaks, attempt_steps}
 use Rattle.run.specs.Calls.{record_of, machine_of, with_state}
 use Rattle.run.specs.FrameLaws.{put_nothing, put_self}
 use Rattle.run.specs.Answers.{next_in, record_after, CanAttempt, attempted, Attempted}

@@ -1,24 +1,21 @@
 -- What every advance leaves: its frames fit into frame memory, the lengths of the memories stay, and the record keeps its settings.
 use Rattle.std.specs.Prelude.{◌≡◌, ℕ, zero, suc, ◌+◌, ◌-◌, ◌*◌, ◌≤◌, Bool, true, false, cond, not, ◌&&◌, ◌||◌, List, [], ◌∷◌, ◌++◌, length, ◌≢◌, nat_lt, Float}
-use mathlib.Core.List.{flatten}
 use Rattle.std.proofs.Math.Option.{Option, none, some}
 use Rattle.std.proofs.Math.Path.{refl}
-use Rattle.std.proofs.Common.{sym, ◌∙◌, ap, subst, length-take, length-drop}
+use Rattle.std.proofs.Common.{sym, ◌∙◌, subst}
 use Rattle.std.proofs.Math.Nat.{suc-mul}
 use native.Mathlib.Omega.{arith}
 use Rattle.std.proofs.Math.ListN.{length-append}
 use borrow.Author.Tests.{ltb-false}
 use Rattle.vectors.specs.Grid.{points_of}
-use Rattle.physics.specs.State.{State}
-use Rattle.physics.specs.StateLaws.{Sized, length-lay_out, sized_state_in}
+use Rattle.physics.specs.StateLaws.{sized_state_in}
 use Rattle.run.specs.declared.settings.Settings.{Settings}
 use Rattle.run.specs.declared.settings.Record.{Record}
 use Rattle.run.specs.Model.{fault_at, cell_count, work_count, frame_count, frames_next, frame_of, next_state, holds_nan}
 use Rattle.run.specs.ModelLaws.{some_not_none, frame_large}
 use Rattle.run.specs.PlainRun.{Machine, option, has_ended, outcome_of, attempt}
-use Rattle.run.specs.PlainRunLaws.{Formed}
 use Rattle.run.specs.Outcome.{Outcome}
-use Rattle.run.specs.Tally.{Reply, refused, full, ran, too_many}
+use Rattle.run.specs.Tally.{refused, full, ran, too_many}
 use Rattle.run.specs.Calls.{machine_of, Stop, is_full, attempts_from, AfterAdvance, advance_refusal, advance_of, frames_told}
 use Rattle.run.specs.CallsLaws.{from_formed, from_told}
 use Rattle.run.specs.FrameLaws as frame-laws

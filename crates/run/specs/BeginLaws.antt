@@ -1,17 +1,17 @@
 -- What every begin leaves: its frame fits into frame memory, the length of frame memory stays, and the record has the settings.
-use Rattle.std.specs.Prelude.{◌≡◌, ℕ, ◌+◌, ◌*◌, ◌≤◌, Bool, true, false, cond, not, ◌&&◌, List, [], ◌∷◌, length, nat_lt, refl, Float}
+use Rattle.std.specs.Prelude.{◌≡◌, ℕ, ◌*◌, ◌≤◌, Bool, true, false, cond, not, ◌&&◌, List, [], ◌∷◌, length, nat_lt, refl, Float}
 use Rattle.std.proofs.Math.Option.{Option, none, some}
-use Rattle.std.proofs.Common.{sym, ◌∙◌, ap, subst, arith, ltb-false}
+use Rattle.std.proofs.Common.{sym, ap, subst, arith, ltb-false}
 use Rattle.run.specs.declared.settings.Settings.{Settings}
 use Rattle.run.specs.declared.settings.Record.{Record}
 use Rattle.run.specs.Model.{frame_count, first_state, frame_of}
 use Rattle.run.specs.ModelLaws.{frame_large}
 use Rattle.run.specs.PlainRun.{start}
 use Rattle.run.specs.PlainRunLaws.{start_formed}
-use Rattle.run.specs.Calls.{record_of, Began, refused_begin, accepted, AfterBegin, begin_refusal, begin_of}
+use Rattle.run.specs.Calls.{record_of, accepted, AfterBegin, begin_refusal, begin_of}
 use Rattle.run.specs.FrameLaws.{length_frames}
-use Rattle.run.specs.DemandProof.{begun_accepted, begin_some, begin_none, clash}
-use Rattle.run.specs.OrderLinesLaws.{Roomy, Lendable, lendable}
+use Rattle.run.specs.DemandProof.{begin_some, begin_none, clash}
+use Rattle.run.specs.OrderLinesLaws.{Roomy, lendable}
 
 -- the frame of the start fits
 pub start_fits : (s : Settings) (room : ℕ) → Roomy s room → length (start s).frames * frame_count s ≤ room

@@ -1,5 +1,5 @@
 -- Laws of an advance's attempts and of the tally's: the same answers, and the plain run's machine.
-use Rattle.std.specs.Prelude.{◌≡◌, ℕ, zero, suc, ◌+◌, ◌-◌, ◌*◌, Bool, true, false, cond, not, ◌&&◌, ◌||◌, List, [], ◌∷◌, ◌++◌, length, nat_le, Float}
+use Rattle.std.specs.Prelude.{◌≡◌, ℕ, zero, suc, ◌+◌, ◌-◌, Bool, true, false, cond, ◌&&◌, ◌||◌, List, length, nat_le, Float}
 use Rattle.std.proofs.lemmas.Bool.{false≢true}
 use Rattle.std.proofs.Math.Option.{Option, none, some}
 use Rattle.std.proofs.Math.Path.{refl, sym, ap, ap₂}
@@ -7,10 +7,10 @@ use Rattle.std.proofs.Common.{◌∙◌, add-zero, length-append}
 use native.Mathlib.Omega.{arith}
 use Rattle.run.specs.declared.settings.Settings.{Settings}
 use Rattle.run.specs.Model.{mass_at, is_late, fault_at}
-use Rattle.run.specs.Outcome.{Outcome, collapse, broke, timeout, spent}
+use Rattle.run.specs.Outcome.{collapse, broke, timeout, spent}
 use Rattle.run.specs.PlainRun.{Machine, is_some, option, ended, outcome, has_ended, outcome_of, attempt, plain_run}
 use Rattle.run.specs.PlainRunLaws.{after, attempt_ended, attempt_after, plain_run_more, Formed, attempt_formed}
-use Rattle.run.specs.Tally.{Reply, refused, full, ran, Told, appended, no_room, attempts}
+use Rattle.run.specs.Tally.{full, ran, Told, appended, no_room, attempts}
 use Rattle.run.specs.Calls.{Stop, is_full, attempts_from, frames_told, counted}
 use Rattle.run.specs.Demand.{is_end}
 

@@ -3,7 +3,6 @@
 use Rattle.std.specs.Prelude.{◌≡◌, ℕ, zero, suc, ◌+◌, ◌-◌, ◌*◌, ◌≤◌, Bool, cond, List, [], ◌∷◌, ◌++◌, map, length, take, nat_le, nat_lt, Float}
 use Rattle.std.proofs.Math.Option.{Option, none, some}
 use Rattle.vectors.specs.Memory.{put}
-use Rattle.run.specs.declared.settings.Settings.{Settings}
 use Rattle.run.specs.declared.settings.Record.{Record}
 use Rattle.run.specs.declared.order.Places.{Places}
 use Rattle.run.specs.declared.order.Read.{Read}
@@ -14,9 +13,8 @@ use Rattle.run.specs.declared.carry_out.Todo.TheVariants.{Nothing, Next}
 use Rattle.run.specs.declared.carry_out.Carried.{Carried}
 use Rattle.run.specs.declared.carry_out.Carried.TheVariants.{NoRoom, Last, More}
 use Rattle.run.specs.Model.{frame_count}
-use Rattle.run.specs.PlainRun.{option}
 use Rattle.run.specs.Tally.{Reply, refused, full, ran}
-use Rattle.run.specs.Calls.{Began, refused_begin, accepted, AfterBegin, begin_of, begin_uses, AfterAdvance, advance_of, advance_uses, frames_told, frames_in}
+use Rattle.run.specs.Calls.{Began, refused_begin, accepted, begin_of, begin_uses, AfterAdvance, advance_of, advance_uses, frames_told, frames_in}
 use Rattle.run.specs.Order.{read_order, budget_at}
 use Rattle.run.specs.OrderLines.{budgets_from}
 use Rattle.run.specs.Report.{no_room_for_text}

@@ -15,16 +15,15 @@ use Rattle.run.specs.Model.{frame_count, frames_next}
 use Rattle.run.specs.ModelLaws.{frames_next_skipped}
 use Rattle.run.specs.PlainRun.{Machine, has_ended, outcome_of, attempt, start}
 use Rattle.run.specs.Tally.{Reply, refused, full, ran}
-use Rattle.run.specs.Calls.{record_of, machine_of, Stop, is_full, attempts_from, Began, refused_begin, accepted, begin_refusal, AfterBegin, begin_of, AfterAdvance, left_by, advance_refusal, advance_of}
-use Rattle.run.specs.CallsLaws.{from_more}
+use Rattle.run.specs.Calls.{record_of, machine_of, is_full, attempts_from, begin_refusal, AfterBegin, begin_of, AfterAdvance, advance_refusal, advance_of}
 use Rattle.run.specs.OneCall.{advance_refused, advance_runs}
-use Rattle.run.specs.AdvanceLaws.{full_is, ran_not_full, refused_not_full, from_full_few, Leaves, advance_leaves}
-use Rattle.run.specs.DemandProof.{begin_some, begin_none, clash}
-use Rattle.run.specs.OrderLinesLaws.{Roomy, Lendable, lendable}
+use Rattle.run.specs.AdvanceLaws.{ran_not_full, refused_not_full, from_full_few, advance_leaves}
+use Rattle.run.specs.DemandProof.{begin_some, begin_none}
+use Rattle.run.specs.OrderLinesLaws.{Roomy, lendable}
 use Rattle.run.specs.Order.{budget_at, read_order}
 use Rattle.run.specs.OrderLines.{budgets_from}
 use Rattle.run.specs.Lines.{refusal}
-use Rattle.run.specs.CarryOut.{job_of, advance_at, left_after, Turn, advance_turn, begin_turn, Answered, refused_call, printed, AfterCall, has_room, after_turn, stayed, go_on_of, begin_read, begin_order_of, calls_for}
+use Rattle.run.specs.CarryOut.{job_of, advance_at, left_after, advance_turn, begin_turn, Answered, refused_call, printed, AfterCall, has_room, after_turn, stayed, go_on_of, begin_read, begin_order_of, calls_for}
 
 -- how many calls a job wants at the most: its own, one for each attempt that is left of its budget, and those of the budgets behind it
 unfoldable pub calls_of : (order : List ℕ) → Job → ℕ

@@ -1,6 +1,6 @@
 -- An order carried out a call at a time prints what 01 says that it prints, whatever the lent memories held, and ends.
-use Rattle.std.specs.Prelude.{◌≡◌, ℕ, zero, suc, ◌+◌, ◌-◌, ◌*◌, ◌<◌, ◌≤◌, Bool, true, false, cond, not, ◌&&◌, ◌||◌, List, [], ◌∷◌, ◌++◌, map, length, take, drop, nat_lt, Float}
-use Rattle.std.proofs.Common.{true≢false, append_assoc, append-nil, ◌∙◌, ap₂, subst, add-zero, zero-add, le_of_eq, take_all, drop_at}
+use Rattle.std.specs.Prelude.{◌≡◌, ℕ, zero, suc, ◌+◌, ◌-◌, ◌*◌, ◌<◌, ◌≤◌, Bool, true, false, cond, ◌||◌, List, [], ◌∷◌, ◌++◌, map, length, take, drop, nat_lt, Float}
+use Rattle.std.proofs.Common.{true≢false, append_assoc, append-nil, ◌∙◌, ap₂, subst, le_of_eq, take_all, drop_at}
 use Rattle.std.proofs.Math.Option.{Option, none, some}
 use Rattle.std.proofs.Math.Path.{refl, sym, ap}
 use native.Mathlib.Omega.{arith}
@@ -13,15 +13,15 @@ use Rattle.run.specs.declared.settings.Settings.{Settings}
 use Rattle.run.specs.declared.settings.Record.{Record}
 use Rattle.run.specs.declared.order.Places.{Places}
 use Rattle.run.specs.declared.carry_out.Job.{Job}
-use Rattle.run.specs.Model.{fault_at, cell_count, work_count, frame_count}
+use Rattle.run.specs.Model.{cell_count, work_count, frame_count}
 use Rattle.run.specs.ModelLaws.{frame_large}
-use Rattle.run.specs.PlainRun.{Machine, option, start, plain_run}
+use Rattle.run.specs.PlainRun.{option, start, plain_run}
 use Rattle.run.specs.PlainRunLaws.{start_formed}
-use Rattle.run.specs.Tally.{Reply, refused, full, ran, Fed, Told, too_short, attempts, told}
+use Rattle.run.specs.Tally.{Reply, refused, full, ran, Fed, Told, told}
 use Rattle.run.specs.Calls.{record_of, with_state, with_frames, AfterBegin, begin_refusal, begin_of, AfterAdvance, advance_of, frames_told, frames_in, Call, Session, advanced, call}
 use Rattle.run.specs.Demand.{fed}
-use Rattle.run.specs.OneCall.{memory_at, session_at, length_memory_at, one_answer, one_session, told_runs, told_counted}
-use Rattle.run.specs.AdvanceLaws.{Leaves, advance_leaves}
+use Rattle.run.specs.OneCall.{memory_at, session_at, length_memory_at, one_answer, one_session}
+use Rattle.run.specs.AdvanceLaws.{advance_leaves}
 use Rattle.run.specs.BeginLaws.{start_fits}
 use Rattle.run.specs.DemandProof.{begin_some, begin_none}
 use Rattle.run.specs.FrameLaws.{frames_in-put, length_frames}
@@ -32,7 +32,7 @@ use Rattle.run.specs.Lines.{Line, frame, refusal, refusal_at, texts_of, reply_li
 use Rattle.run.specs.LinesLaws.{Long, texts_of-append, frames_room, each_frames_in, length-frames_in, reply_room}
 use Rattle.run.specs.OrderLines.{lent_state, lent_work, lent_frames, asked, Printed, frames_over, told_lines, after_told, advance_lines, advances_lines, budgets_from, run_lines, read_lines, lines_of}
 use Rattle.run.specs.OrderLinesLaws.{Lendable, lendable, told_moves, advance_prints}
-use Rattle.run.specs.CarryOut.{job_of, advance_at, left_after, Turn, advance_turn, begin_turn, Answered, printed, AfterCall, room_for, has_room, after_turn, go_on_of, begin_read, begin_order_of, then_printed, printed_by, calls_for, calls_in}
+use Rattle.run.specs.CarryOut.{job_of, advance_at, left_after, advance_turn, begin_turn, printed, AfterCall, room_for, after_turn, go_on_of, begin_read, begin_order_of, then_printed, printed_by, calls_for, calls_in}
 
 -- ---- what the program lends, in numbers and bytes
 pub lent_lengths : (lent_state ≡ 1032) × (lent_work ≡ 5160) × (lent_frames ≡ 8192) × (room_for lent_frames ≡ 147520)

@@ -4,7 +4,7 @@ use Rattle.std.proofs.Math.Option.{some}
 use Rattle.run.specs.declared.settings.Settings.{Settings}
 use Rattle.run.specs.declared.settings.Record.{Record}
 use Rattle.run.specs.Model.{cell_count, frame_count, state_in}
-use Rattle.run.specs.Outcome.{Outcome, collapse, broke, timeout, spent}
+use Rattle.run.specs.Outcome.{collapse, broke, timeout, spent}
 use Rattle.run.specs.PlainRun.{plain_run}
 use Rattle.run.specs.Tally.{Reply, refused, full, ran, Fed, tally}
 use Rattle.run.specs.Calls.{refused_begin, accepted, AfterBegin, begin_of, begin_refusal, frames_in, Call, Session, calls, replies, total, unused_before, unused_after}

@@ -1,5 +1,5 @@
 -- Demand 3: the theorem. The session after a list is the one that holds the plain run after S attempts, by induction over the list.
-use Rattle.std.specs.Prelude.{◌≡◌, ℕ, zero, suc, ◌+◌, ◌*◌, ◌≤◌, Bool, true, false, cond, not, ◌&&◌, ◌||◌, ◌↔◌, List, [], ◌∷◌, ◌++◌, map, length, drop, ◌≢◌, nat_lt, Float}
+use Rattle.std.specs.Prelude.{◌≡◌, ℕ, ◌+◌, ◌*◌, ◌≤◌, Bool, true, false, cond, not, ◌&&◌, ◌||◌, List, [], ◌∷◌, ◌++◌, map, length, drop, ◌≢◌, nat_lt, Float}
 use Rattle.std.proofs.lemmas.Bool.{false≢true}
 use Rattle.std.proofs.Math.Option.{Option, none, some}
 use Rattle.std.proofs.Math.Path.{refl, sym, ap, ap₂}
@@ -12,9 +12,9 @@ use Rattle.run.specs.declared.settings.Record.{Record}
 use Rattle.run.specs.Model.{fault_at, cell_count, work_count, frame_count, first_state, holds_nan}
 use Rattle.run.specs.ModelLaws.{some_not_none}
 use Rattle.run.specs.PlainRun.{Machine, option, has_ended, start, plain_run}
-use Rattle.run.specs.PlainRunLaws.{Formed, start_formed, plain_run_formed, plain_run_ended_stays}
-use Rattle.run.specs.Tally.{Reply, Fed, Told, too_short, told, tally}
-use Rattle.run.specs.Calls.{record_of, with_state, with_frames, Began, refused_begin, accepted, AfterBegin, lent_refusal, begin_refusal, begin_of, Call, Session, frames_in, advanced, call, calls, replies, unused_of, unused_before, unused_after, counted, total}
+use Rattle.run.specs.PlainRunLaws.{start_formed, plain_run_formed, plain_run_ended_stays}
+use Rattle.run.specs.Tally.{told, tally}
+use Rattle.run.specs.Calls.{record_of, with_state, with_frames, refused_begin, accepted, AfterBegin, lent_refusal, begin_refusal, begin_of, Call, Session, frames_in, advanced, call, calls, replies, unused_before, unused_after, counted, total}
 use Rattle.run.specs.FrameLaws.{drop-put, frames_in-put, drop_frames}
 use Rattle.run.specs.OneCall.{memory_at, session_at, length_memory_at, one_answer, one_session, one_unused, told_counted, told_end}
 use Rattle.run.specs.Demand.{is_end, any_end, fed, Agrees, Same, begun, opened, Demand3}

@@ -1,5 +1,5 @@
 -- Laws of frames: their length, and that every sample is a point of the grid.
-use Rattle.std.specs.Prelude.{◌≡◌, ℕ, ◌+◌, ◌-◌, ◌*◌, ◌^◌, ◌<◌, ◌≤◌, List, length, refl, Float}
+use Rattle.std.specs.Prelude.{◌≡◌, ℕ, ◌+◌, ◌-◌, ◌*◌, ◌^◌, ◌<◌, ◌≤◌, List, length, Float}
 use Rattle.std.proofs.Common.{sym, ap, ◌∙◌, inl, inr, mul-le-mul_right, arith, le-leb, length-append, pow-add, pow_mono}
 use Rattle.std.proofs.lemmas.Bool.{lt-leb}
 use Rattle.vectors.specs.Grid.{points_of}

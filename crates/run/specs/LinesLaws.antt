@@ -1,9 +1,9 @@
 -- Lengths of lines: those of a call fit into the room that it asks for.
-use Rattle.std.specs.Prelude.{◌≡◌, ℕ, zero, suc, ◌+◌, ◌-◌, ◌*◌, ◌≤◌, List, [], ◌∷◌, ◌++◌, map, length, take, drop, refl, Float}
-use Rattle.std.proofs.Common.{append_assoc, append-nil, sym, ◌∙◌, suc-mul, arith, length-take, length-drop, length-take-le}
+use Rattle.std.specs.Prelude.{◌≡◌, ℕ, zero, suc, ◌+◌, ◌*◌, ◌≤◌, List, [], ◌∷◌, ◌++◌, map, length, drop, refl, Float}
+use Rattle.std.proofs.Common.{append_assoc, append-nil, sym, ◌∙◌, suc-mul, arith, length-drop, length-take-le}
 use Rattle.std.proofs.Math.Path.{ap}
 use Rattle.std.proofs.Math.ListN.{length-append}
-use Rattle.run.specs.Report.{frame_line, outcome_line, longest}
+use Rattle.run.specs.Report.{frame_line}
 use Rattle.run.specs.ReportLaws.{length_frame, length_outcome, length_refusal}
 use Rattle.run.specs.Tally.{Reply, refused, full, ran}
 use Rattle.run.specs.Calls.{frames_in, frames_told}

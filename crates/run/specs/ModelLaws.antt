@@ -1,6 +1,6 @@
 -- All that proofs may use of the definitions of Model.antt.
-use Rattle.std.specs.Prelude.{◌≡◌, ℕ, ◌<◌, ◌≤◌, true, false, List, length, ◌≢◌, refl}
-use Rattle.std.proofs.Math.Option.{Option, none, some}
+use Rattle.std.specs.Prelude.{◌≡◌, ℕ, ◌<◌, ◌≤◌, true, false, length, ◌≢◌}
+use Rattle.std.proofs.Math.Option.{none, some}
 use Rattle.std.proofs.Common.{sym, arith}
 use Rattle.vectors.specs.Grid.{points_of}
 use Rattle.vectors.specs.GridLaws.{Level}

@@ -1,20 +1,20 @@
 -- One call of a list: from the session that holds the plain run after S attempts to the one after those that the tally counts.
-use Rattle.std.specs.Prelude.{◌≡◌, ℕ, ◌+◌, ◌*◌, ◌≤◌, Bool, true, false, cond, ◌||◌, List, [], ◌∷◌, ◌++◌, length, take, drop, nat_lt, Float}
-use Rattle.std.proofs.Common.{true≢false, sym, ◌∙◌, ap₂, subst₂, add-zero, zero-add, arith, length-take, take-take, ltb-false}
+use Rattle.std.specs.Prelude.{◌≡◌, ℕ, ◌+◌, ◌*◌, ◌≤◌, Bool, true, false, cond, ◌||◌, List, [], ◌++◌, length, take, drop, nat_lt, Float}
+use Rattle.std.proofs.Common.{true≢false, sym, ◌∙◌, subst₂, add-zero, zero-add, arith, length-take, take-take, ltb-false}
 use Rattle.std.proofs.lemmas.Bool.{false≢true}
 use mathlib.Core.List.{append-nil}
-use Rattle.std.proofs.Math.Option.{Option, none, some}
+use Rattle.std.proofs.Math.Option.{none, some}
 use Rattle.std.proofs.Math.Path.{refl, ap}
 use Rattle.std.proofs.Math.ListN.{take-append-drop}
 use Rattle.vectors.specs.Grid.{points_of}
 use Rattle.physics.specs.State.{State, lay_out}
-use Rattle.physics.specs.StateLaws.{Sized, length-lay_out, state_in-put, state_in_same}
+use Rattle.physics.specs.StateLaws.{length-lay_out, state_in-put, state_in_same}
 use Rattle.run.specs.declared.settings.Settings.{Settings}
 use Rattle.run.specs.declared.settings.Record.{Record}
-use Rattle.run.specs.Model.{fault_at, cell_count, work_count, frame_count, state_in}
+use Rattle.run.specs.Model.{fault_at, cell_count, work_count, frame_count}
 use Rattle.run.specs.PlainRun.{Machine, has_ended, plain_run}
 use Rattle.run.specs.PlainRunLaws.{after, Formed, plain_run_formed}
-use Rattle.run.specs.Tally.{Reply, refused, Fed, Told, too_short, too_many, attempts, told}
+use Rattle.run.specs.Tally.{refused, Fed, Told, too_short, too_many, attempts, told}
 use Rattle.run.specs.Calls.{record_of, machine_of, with_state, with_frames, Stop, attempts_from, AfterAdvance, left_by, advance_refusal, advance_of, Call, Session, frames_told, frames_in, advanced, call, unused_of, counted}
 use Rattle.run.specs.FrameLaws.{none, length-put_front, put_again, put_lent, frames_in-put, drop_frames}
 use Rattle.run.specs.CallsLaws.{from_formed, from_told, attempts_counted, attempts_end, Follows, attempts_follow}

@@ -1,9 +1,7 @@
 -- 01, "Orders (added)": what an order prints, as a list of lines. Definitions only; OrderLinesLaws.antt has the theorems.
 use Rattle.std.specs.Prelude.{ℕ, zero, suc, ◌+◌, ◌-◌, ◌*◌, cond, List, [], ◌∷◌, ◌++◌, map, length, drop, nat_lt, Float}
-use Rattle.std.proofs.Math.Option.{Option}
 use Rattle.vectors.specs.Grid.{points_of}
 use Rattle.run.specs.declared.settings.Settings.{Settings}
-use Rattle.run.specs.declared.order.Places.{Places}
 use Rattle.run.specs.declared.order.Read.{Read}
 use Rattle.run.specs.declared.order.Read.TheVariants.{Refused, Order}
 use Rattle.run.specs.PlainRun.{option, start, plain_run}

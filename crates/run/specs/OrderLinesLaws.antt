@@ -1,14 +1,13 @@
 -- What an 08 prints: with frame memory for a frame, full has made an attempt, so the calls after it end; and they change nothing that is printed.
-use Rattle.std.specs.Prelude.{◌≡◌, ℕ, zero, suc, ◌+◌, ◌-◌, ◌*◌, ◌<◌, ◌≤◌, Bool, true, false, cond, not, ◌&&◌, ◌||◌, List, [], ◌∷◌, ◌++◌, map, length, drop, ◌≢◌, nat_lt, Float}
+use Rattle.std.specs.Prelude.{◌≡◌, ℕ, zero, suc, ◌+◌, ◌-◌, ◌*◌, ◌<◌, ◌≤◌, Bool, true, false, cond, not, ◌&&◌, List, [], ◌∷◌, ◌++◌, map, length, drop, ◌≢◌, nat_lt, Float}
 use Rattle.std.proofs.Math.Bool.{and-false}
-use Rattle.std.proofs.Common.{true≢false, append_assoc, append-nil, ◌∙◌, ap₂, subst, add-zero, zero-add, le-ltb, ltb-false}
-use Rattle.std.proofs.lemmas.Bool.{false≢true}
+use Rattle.std.proofs.Common.{append_assoc, append-nil, ◌∙◌, subst, add-zero, zero-add, le-ltb, ltb-false}
 use Rattle.std.proofs.Math.Option.{Option, none, some}
 use Rattle.std.proofs.Math.Path.{refl, sym, ap}
 use native.Mathlib.Omega.{arith}
 use Rattle.std.proofs.Math.Seq.{drop_at}
 use Rattle.run.specs.declared.settings.Settings.{Settings}
-use Rattle.run.specs.Model.{fault_at, cell_count, work_count, frame_count, first_state, holds_nan, frames_next, frame_of, next_state}
+use Rattle.run.specs.Model.{fault_at, frame_count, first_state, holds_nan, frames_next, frame_of, next_state}
 use Rattle.run.specs.ModelLaws.{some_not_none, frames_next_skipped}
 use Rattle.run.specs.Outcome.{Outcome}
 use Rattle.run.specs.PlainRun.{Machine, option, has_ended, outcome_of, attempt, plain_run}

@@ -1,7 +1,7 @@
 -- Laws of the plain run: its attempts, that an ended run stays, and that its states and frames have their lengths.
-use Rattle.std.specs.Prelude.{◌≡◌, ℕ, zero, suc, ◌+◌, Bool, true, false, cond, ◌||◌, List, [], ◌∷◌, ◌++◌, refl, Float}
-use Rattle.std.proofs.Common.{append_assoc, sym, ◌∙◌, add-zero}
-use Rattle.std.proofs.Math.Option.{Option, none, some}
+use Rattle.std.specs.Prelude.{◌≡◌, ℕ, zero, suc, ◌+◌, Bool, true, false, cond, List, [], ◌∷◌, ◌++◌, refl, Float}
+use Rattle.std.proofs.Common.{append_assoc, ◌∙◌, add-zero}
+use Rattle.std.proofs.Math.Option.{none}
 use Rattle.std.proofs.Math.Path.{ap}
 use native.Mathlib.Omega.{arith}
 use Rattle.vectors.specs.Grid.{points_of}

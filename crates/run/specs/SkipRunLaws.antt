@@ -13,7 +13,7 @@ use Rattle.run.specs.Inputs as inputs
 use Rattle.run.specs.Model.{fault_at, cell_count, work_count}
 use Rattle.run.specs.ModelLaws.{some_not_none}
 use Rattle.run.specs.PlainRun.{option, has_ended, outcome_of, start, plain_run}
-use Rattle.run.specs.Tally.{Reply, refused, too_many, told}
+use Rattle.run.specs.Tally.{Reply, too_many}
 use Rattle.run.specs.Calls.{refused_begin, accepted, AfterBegin, AfterAdvance, lent_refusal, begin_refusal, begin_of, begin_uses, advance_refusal, advance_of, advance_uses, is_idle, Call, call, calls}
 use Rattle.run.specs.Demand.{begun}
 use Rattle.run.specs.DemandProof.{clash, demand3}

@@ -4,7 +4,7 @@ use Rattle.std.specs.Prelude.{ℕ, zero, suc, ◌+◌, ◌-◌, ◌*◌, Bool, c
 use Rattle.run.specs.declared.settings.Settings.{Settings}
 use Rattle.run.specs.Model.{cell_count, work_count, frame_count, frames_next}
 use Rattle.run.specs.Outcome.{Outcome}
-use Rattle.run.specs.PlainRun.{Machine, has_ended, outcome_of, plain_run}
+use Rattle.run.specs.PlainRun.{has_ended, outcome_of, plain_run}
 
 -- what an advance answers beside the record: a refusal's number; full with the attempts made and how many frames; or the outcome and how
 -- many frames

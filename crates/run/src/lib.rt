@@ -1,4 +1,6 @@
 // Runs with budgeted advance.
+#![tactic(auto)]
+
 pub mod adaptive_time_step;
 mod bytes;
 pub mod carry_out;

@@ -5,7 +5,6 @@ use Rattle.std.proofs.Math.Option.{Option, none, some}
 use Rattle.std.proofs.Math.Path.{refl, sym}
 use Rattle.std.proofs.Common.{ap, ◌∙◌, subst, arith}
 use borrow.Author.Tests.{ltb-true, leb-true, eq-eqb, ne_eqb}
-use Rattle.std.specs.Float.Ieee.{up}
 use Rattle.run.specs.declared.settings.Settings.{Settings}
 use Rattle.run.specs.Clock.{whole_above}
 use Rattle.run.specs.ModelLaws.{some_not_none}

@@ -1,4 +1,6 @@
 // The threshold amplitude of collapse, bracketed by halving.
+#![tactic(auto)]
+
 ghost use Rattle.std.specs.Prelude.{◌≡◌, ◌+◌, ◌*◌, ◌<◌};
 ghost use Rattle.run.specs.Answers.{ran_of};
 ghost use Rattle.run.specs.SkipRun.{SkipRan};

@@ -1,5 +1,4 @@
 -- `run::adaptive_time_step::base_time_step` meets its contract.
-use Rattle.std.proofs.Common.{rules}
 use Rattle.run.specs.ClockLaws.{base_slowed, base_full}
 use Rattle.run.proofs.adaptive_time_step.base_time_step.Goals as goal
 

@@ -1,5 +1,4 @@
 -- `run::adaptive_time_step::next` meets its contract.
-use Rattle.std.proofs.Common.{rules}
 use Rattle.vectors.specs.Constants.{constant_bits}
 use Rattle.run.specs.ClockLaws.{step_skipped, step_near, step_far, step_framed}
 use Rattle.run.proofs.adaptive_time_step.next.Goals as goal

@@ -1,5 +1,4 @@
 -- `run::adaptive_time_step::time_to_next_frame` meets its contract.
-use Rattle.std.proofs.Common.{rules}
 use lib.Ieee.{of_bits}
 use Rattle.run.specs.Clock.{time_to_next_of}
 use Rattle.run.proofs.adaptive_time_step.time_to_next_frame.Goals as goal

@@ -1,5 +1,5 @@
 -- `run::bytes::byte_after` meets its contract.
-use Rattle.std.proofs.Common.{◌+◌, sym, arith, rules}
+use Rattle.std.proofs.Common.{◌+◌, sym, arith}
 use lib.ListN.{get_or-eq_default}
 use Rattle.run.proofs.bytes.byte_after.Goals as goal
 

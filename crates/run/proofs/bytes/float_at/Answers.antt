@@ -1,5 +1,5 @@
 -- `run::bytes::float_at` meets its contract.
-use Rattle.std.proofs.Common.{◌≡◌, ℕ, ◌+◌, ◌*◌, List, ap, ◌∙◌, add-zero, add_assoc, arith, rules}
+use Rattle.std.proofs.Common.{◌≡◌, ℕ, ◌+◌, ◌*◌, List, ap, ◌∙◌, add-zero, add_assoc, arith}
 use lib.Ieee.{binary64, of_bits}
 use Rattle.run.specs.Bytes.{little, float_at}
 use Rattle.run.proofs.bytes.float_at.Goals as goal

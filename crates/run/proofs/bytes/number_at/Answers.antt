@@ -1,5 +1,5 @@
 -- `run::bytes::number_at` meets its contract.
-use Rattle.std.proofs.Common.{ap, ◌∙◌, add-zero, rules}
+use Rattle.std.proofs.Common.{ap, ◌∙◌, add-zero}
 use Rattle.run.specs.Bytes.{little}
 use Rattle.run.proofs.bytes.number_at.Goals as goal
 

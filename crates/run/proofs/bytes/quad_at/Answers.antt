@@ -1,5 +1,5 @@
 -- `run::bytes::quad_at` meets its contract.
-use Rattle.std.proofs.Common.{add_assoc, arith, rules}
+use Rattle.std.proofs.Common.{add_assoc, arith}
 use Rattle.run.specs.Bytes.{little}
 use Rattle.run.proofs.bytes.quad_at.Goals as goal
 

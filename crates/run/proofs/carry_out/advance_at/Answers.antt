@@ -1,5 +1,5 @@
 -- `run::carry_out::advance_at` meets its contract.
-use Rattle.std.proofs.Common.{rules, le-ltb, lt-ltb}
+use Rattle.std.proofs.Common.{le-ltb, lt-ltb}
 use Rattle.run.specs.CarryOut.{advance_at}
 use Rattle.run.proofs.carry_out.advance_at.Goals as goal
 

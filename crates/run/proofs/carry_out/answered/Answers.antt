@@ -1,5 +1,4 @@
 -- `run::carry_out::answered` meets its contract.
-use Rattle.std.proofs.Common.{rules}
 use Rattle.run.proofs.carry_out.answered.Goals as goal
 
 pub returns-in-Nothing : goal.returns-in-Nothing

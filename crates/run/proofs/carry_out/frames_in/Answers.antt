@@ -1,7 +1,6 @@
 -- `run::carry_out::frames_in` meets its contract.
-use Rattle.std.proofs.Common.{◌≡◌, ◌+◌, ◌-◌, ◌*◌, ◌≤◌, length, refl, ap, suc-mul, arith, rules}
-use Rattle.run.specs.CarryOut.{room_for, Writes}
-use Rattle.run.proofs.CarryOut.{frames_text, frames_first, frames_left, frames_length_lem, turn_room, frames_turn, frames_done}
+use Rattle.std.proofs.Common.{length, refl, arith}
+use Rattle.run.proofs.CarryOut.{frames_first, frames_left, frames_length_lem, turn_room, frames_turn, frames_done}
 use Rattle.run.proofs.carry_out.frames_in.Goals as goal
 
 pub loop-i-init : goal.loop-i-init

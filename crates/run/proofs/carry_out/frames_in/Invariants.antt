@@ -1,6 +1,6 @@
-use Rattle.std.proofs.Common.{◌≡◌, ◌+◌, ◌-◌, ◌*◌, ◌≤◌, length, refl, ap, suc-mul, arith, rules}
+use Rattle.std.proofs.Common.{◌-◌, ◌*◌, ◌≤◌, length}
 use Rattle.run.specs.CarryOut.{room_for, Writes}
-use Rattle.run.proofs.CarryOut.{frames_text, frames_first, frames_left, frames_length_lem, turn_room, frames_turn, frames_done}
+use Rattle.run.proofs.CarryOut.{frames_text}
 use Rattle.run.proofs.carry_out.frames_in.Given as goal
 
 abbrev pub invariant-loop-i : goal.invariant-loop-i

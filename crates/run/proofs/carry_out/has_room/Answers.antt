@@ -1,5 +1,5 @@
 -- `run::carry_out::has_room` meets its contract.
-use Rattle.std.proofs.Common.{◌+◌, ◌*◌, arith, rules}
+use Rattle.std.proofs.Common.{◌+◌, ◌*◌, arith}
 use borrow.Author.Tests.{lt-leb}
 use Rattle.run.proofs.CarryOut.{room_is}
 use Rattle.run.proofs.carry_out.has_room.Goals as goal

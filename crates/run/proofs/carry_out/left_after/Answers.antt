@@ -1,7 +1,6 @@
 -- `run::carry_out::left_after` meets its contract.
-use Rattle.std.proofs.Common.{◌≤◌, arith, rules}
-use Rattle.run.specs.CarryOut.{left_after, Fits}
-use Rattle.run.specs.Answers.{reply_of}
+use Rattle.std.proofs.Common.{arith}
+use Rattle.run.specs.CarryOut.{left_after}
 use Rattle.run.proofs.carry_out.left_after.Goals as goal
 
 pub overflow_sub-result : goal.overflow_sub-result

@@ -1,5 +1,4 @@
 -- `run::carry_out::lines_in` meets its contract.
-use Rattle.std.proofs.Common.{rules}
 use Rattle.run.specs.Calls.{frames_told}
 use Rattle.run.specs.Report.{meant_by}
 use Rattle.run.specs.Lines.{refusal, text_of, reply_lines}
@@ -11,33 +10,49 @@ unfolding frames_told
 frames_in-requires c =
     let e = size_is c.args.run.settings c.frame_size.ensures in
     let known = c.in-Full.is in
-    let fit = rw known at c.requires.settings_in_bounds.0 in
-    let large = rw known at c.requires.settings_in_bounds.1 in
-    (c.requires.frames_in_bounds, (rw e fit, rw e large))
+    let fit = rw known at c.requires.settings_in_bounds in
+    let large = rw known at c.requires.long in
+    record { frames_in_bounds = c.requires.frames_in_bounds; size_in_bounds = rw e fit; le_size = rw e large }
 
 pub outcome_lines-requires : goal.outcome_lines-requires
 unfolding frames_told
 outcome_lines-requires c =
     let known = c.in-Collapse.is in
-    (c.requires.0, (rw known at c.requires.1.0, rw known at c.requires.1.1))
+    record {
+      frames_in_bounds = c.requires.frames_in_bounds;
+      settings_in_bounds = rw known at c.requires.settings_in_bounds;
+      bound = rw known at c.requires.long;
+    }
 
 pub outcome_lines-requires-in-Broken : goal.outcome_lines-requires-in-Broken
 unfolding frames_told
 outcome_lines-requires-in-Broken c =
     let known = c.in-Broken.is in
-    (c.requires.0, (rw known at c.requires.1.0, rw known at c.requires.1.1))
+    record {
+      frames_in_bounds = c.requires.frames_in_bounds;
+      settings_in_bounds = rw known at c.requires.settings_in_bounds;
+      bound = rw known at c.requires.long;
+    }
 
 pub outcome_lines-requires-in-Timeout : goal.outcome_lines-requires-in-Timeout
 unfolding frames_told
 outcome_lines-requires-in-Timeout c =
     let known = c.in-Timeout.is in
-    (c.requires.0, (rw known at c.requires.1.0, rw known at c.requires.1.1))
+    record {
+      frames_in_bounds = c.requires.frames_in_bounds;
+      settings_in_bounds = rw known at c.requires.settings_in_bounds;
+      bound = rw known at c.requires.long;
+    }
 
 pub outcome_lines-requires-in-Spent : goal.outcome_lines-requires-in-Spent
 unfolding frames_told
 outcome_lines-requires-in-Spent c =
     let known = c.in-Spent.is in
-    (c.requires.0, (rw known at c.requires.1.0, rw known at c.requires.1.1))
+    record {
+      frames_in_bounds = c.requires.frames_in_bounds;
+      settings_in_bounds = rw known at c.requires.settings_in_bounds;
+      bound = rw known at c.requires.long;
+    }
 
 pub returns-in-Refused : goal.returns-in-Refused
 unfolding reply_lines text_of

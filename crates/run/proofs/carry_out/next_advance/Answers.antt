@@ -1,5 +1,5 @@
 -- `run::carry_out::next_advance` meets its contract.
-use Rattle.std.proofs.Common.{◌+◌, arith, rules, le-ltb}
+use Rattle.std.proofs.Common.{◌+◌, arith, le-ltb}
 use Rattle.run.specs.CarryOut.{advance_at}
 use Rattle.run.proofs.carry_out.next_advance.Goals as goal
 

@@ -1,5 +1,4 @@
 -- `run::model::clock_at` meets its contract.
-use Rattle.std.proofs.Common.{rules}
 use Rattle.run.proofs.Leaves.{clock_in}
 use Rattle.run.proofs.model.clock_at.Goals as goal
 

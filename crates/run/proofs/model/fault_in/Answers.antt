@@ -1,5 +1,5 @@
 -- `run::model::fault_in` meets its contract.
-use Rattle.std.proofs.Common.{sym, ap, ◌∙◌, rules}
+use Rattle.std.proofs.Common.{sym, ap, ◌∙◌}
 use Rattle.run.specs.Inputs.{fault_of}
 use Rattle.run.specs.Model.{fault_at}
 use Rattle.run.proofs.model.fault_in.Goals as goal

@@ -1,5 +1,4 @@
 -- `run::model::frame_size` meets its contract.
-use Rattle.std.proofs.Common.{rules}
 use Rattle.run.specs.Model.{frame_count}
 use Rattle.run.proofs.model.frame_size.Goals as goal
 

@@ -1,6 +1,5 @@
 -- `run::model::has_nan` meets its contract.
-use Rattle.std.proofs.Common.{◌≡◌, List, sym, refl, ap, ◌∙◌, rules}
-use lib.Ieee.{Float}
+use Rattle.std.proofs.Common.{ap, ◌∙◌}
 use Rattle.physics.specs.Nan.{any_nan}
 use Rattle.run.proofs.Leaves.{next_part, nan_next}
 use Rattle.run.proofs.model.has_nan.Goals as goal

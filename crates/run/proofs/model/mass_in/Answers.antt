@@ -1,5 +1,5 @@
 -- `run::model::mass_in` meets its contract.
-use Rattle.std.proofs.Common.{◌≡◌, sym, refl, ap, ◌∙◌, rules}
+use Rattle.std.proofs.Common.{◌∙◌}
 use Rattle.run.proofs.Leaves.{mass_in}
 use Rattle.run.proofs.model.mass_in.Goals as goal
 

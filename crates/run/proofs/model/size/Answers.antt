@@ -1,5 +1,5 @@
 -- `run::model::size` meets its contract.
-use Rattle.std.proofs.Common.{arith, rules}
+use Rattle.std.proofs.Common.{arith}
 use Rattle.vectors.specs.GridLaws.{points_bound}
 use Rattle.run.proofs.model.size.Goals as goal
 

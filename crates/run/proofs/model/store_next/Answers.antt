@@ -1,5 +1,5 @@
 -- `run::model::store_next` meets its contract.
-use Rattle.std.proofs.Common.{◌∙◌, rules}
+use Rattle.std.proofs.Common.{◌∙◌}
 use Rattle.run.proofs.Leaves.{stored, next_length, stored_next}
 use Rattle.run.proofs.model.store_next.Goals as goal
 

@@ -1,5 +1,4 @@
 -- `run::order::begin_fault` meets its contract.
-use Rattle.std.proofs.Common.{rules}
 use Rattle.run.specs.Order.{begin_fault}
 use Rattle.run.proofs.order.begin_fault.Goals as goal
 

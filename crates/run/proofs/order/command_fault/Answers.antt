@@ -43,3 +43,7 @@ returns-in-Advance c = case c.args.p c.unless_begun.ensures c.in-Advance.is
 pub returns-in-End : goal.returns-in-End
 unfolding command_fault
 returns-in-End c = case c.args.p c.unless_begun-in-End.ensures c.in-End.is
+
+pub returns-in-Wrong : goal.returns-in-Wrong
+unfolding command_fault
+returns-in-Wrong c = search rules

@@ -1,5 +1,5 @@
 -- `run::order::end_order` meets its contract.
-use Rattle.std.proofs.Common.{rules, le-ltb, lt-ltb}
+use Rattle.std.proofs.Common.{le-ltb, lt-ltb}
 use Rattle.run.specs.Order.{ended}
 use Rattle.run.proofs.order.end_order.Goals as goal
 

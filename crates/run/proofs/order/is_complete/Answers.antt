@@ -1,5 +1,4 @@
 -- `run::order::is_complete` meets its contract.
-use Rattle.std.proofs.Common.{rules}
 use Rattle.run.specs.Order.{complete}
 use Rattle.run.proofs.order.is_complete.Goals as goal
 

@@ -11,3 +11,7 @@ returns-then-len-advances c = little_past 4 _ _ (omega arith)
 pub returns-then-len-advances-2 : goal.returns-then-len-advances-2
 unfolding budget_at
 returns-then-len-advances-2 c = little_past 4 _ _ (omega arith)
+
+pub returns : goal.returns
+unfolding budget_at
+returns c = search rules

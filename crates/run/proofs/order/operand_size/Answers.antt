@@ -4,6 +4,10 @@ use lib.ListN.{get_or-eq_default}
 use Rattle.run.specs.Order.{operand_size}
 use Rattle.run.proofs.order.operand_size.Goals as goal
 
+pub returns-then-i-lt10 : goal.returns-then-i-lt10
+unfolding operand_size
+returns-then-i-lt10 c = search rules
+
 pub returns : goal.returns
 unfolding operand_size
 returns c =

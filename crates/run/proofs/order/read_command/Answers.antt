@@ -1,5 +1,5 @@
 -- `run::order::read_command` meets its contract.
-use Rattle.std.proofs.Common.{refl, arith, rules}
+use Rattle.std.proofs.Common.{refl, arith}
 use Rattle.run.proofs.Orders.{read_none, read_cut, read_whole}
 use Rattle.run.proofs.order.read_command.Goals as goal
 

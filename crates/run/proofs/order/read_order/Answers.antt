@@ -1,6 +1,6 @@
 -- `run::order::read_order` meets its contract.
-use Rattle.std.proofs.Common.{◌≡◌, ℕ, ◌-◌, ◌<◌, ◌≤◌, List, length, refl, ap, arith, rules, eq-eqb, ne_eqb}
-use Rattle.run.specs.Order.{next_at}
+use Rattle.std.proofs.Common.{◌≡◌, ℕ, ◌<◌, List, length, refl, ap, arith, rules, eq-eqb, ne_eqb}
+use Rattle.run.specs.Order.{command_read_at, command_fault}
 use Rattle.run.specs.OrderLaws.{next_after}
 use Rattle.run.specs.declared.order.CommandRead.{CommandRead}
 use Rattle.run.specs.declared.order.Places.{Places}
@@ -11,49 +11,38 @@ pub loop-at-init : goal.loop-at-init
 loop-at-init c =
     (refl, omega (arith, ap (λ (p : Places). p.count) c.no_places-p.ensures), rw c.no_places-p.ensures (rest_first _))
 
-    module _ (c : tie.After-command-fault invariant-loop decreases-loop) where
-  abbrev read : tie.After-read-command invariant-loop decreases-loop
-  read = c.before
+-- the command of a turn and its fault
+here_at : (input : List ℕ) (p : Places) (at : ℕ) {r : CommandRead} {fault : ℕ} → Rest input p at → at < length input → r ≡ command_read_at input at → fault ≡ command_fault p r.command
+    → Here input p at r.command fault
+here_at input p at rest inside is fault_is =
+    record { rest = rest; inside = inside; command = ap (λ (r : CommandRead). r.command) is; fault_is = fault_is }
 
-  abbrev loop : tie.At-loop invariant-loop decreases-loop
-  loop = read.before.before.before
-
-  abbrev input : List ℕ
-  input = loop.before.before.before.args.input.now
-
-  -- the command of this turn and its fault
-  here : Here input loop.loop.p loop.loop.at read.read_command.result.command c.no_places-p.result
-  here =
-      record {
-        rest = loop.loop.inv.2;
-        inside = omega arith;
-        command = ap (λ (r : CommandRead). r.command) read.read_command.ensures;
-        fault_is = c.no_places-p.ensures;
-      }
-
-  next : read.read_command.result.next ≡ next_at input loop.loop.at
-  next = ap (λ (r : CommandRead). r.next) read.read_command.ensures
-
-  later : loop.loop.at < read.read_command.result.next
-  later = omega (arith, next, next_after input loop.loop.at here.inside)
+later_at : (input : List ℕ) (at : ℕ) {r : CommandRead} → at < length input → r ≡ command_read_at input at → at < r.next
+later_at input at inside is = omega (arith, ap (λ (r : CommandRead). r.next) is, next_after input at inside)
 
 pub returns-then-fault-ne0 : goal.returns-then-fault-ne0
-returns-then-fault-ne0 c = rest_fault (here c.before) c.if-fault-ne0.true
+returns-then-fault-ne0 c =
+    let here = here_at c.args.input.now c.loop-at.p c.loop-at.at c.loop-at.invariant.2 (omega arith) c.read_command-read.ensures c.command_fault-fault.ensures in
+    rest_fault here c.if-fault-ne0.true
 
 pub returns-then-code-eq9 : goal.returns-then-code-eq9
 returns-then-code-eq9 c =
-    rest_end (here test.before.before) c.if-fault-ne0.false (eq-eqb _ 9 c.if-code-eq9.true) c.end_order.ensures
+    let here = here_at c.args.input.now c.loop-at.p c.loop-at.at c.loop-at.invariant.2 (omega arith) c.read_command-read.ensures c.command_fault-fault.ensures in
+    rest_end here c.if-fault-ne0.false (eq-eqb _ 9 c.if-code-eq9.true) c.end_order.ensures
 
 pub loop-at-smaller : goal.loop-at-smaller
-loop-at-smaller c = let less = later c.before.before.before in omega arith
+loop-at-smaller c =
+    let less = later_at c.args.input.now c.loop-at.at (omega arith) c.read_command-read.ensures in
+    omega arith
 
 pub loop-at-preserved : goal.loop-at-preserved
 loop-at-preserved c =
-    let less = later fault in
-    let counted = count_noted (loop fault).loop.p _ _ (loop fault).loop.invariant.1 c.note-p.ensures in (
+    let here = here_at c.args.input.now c.loop-at.p c.loop-at.at c.loop-at.invariant.2 (omega arith) c.read_command-read.ensures c.command_fault-fault.ensures in
+    let less = later_at c.args.input.now c.loop-at.at (omega arith) c.read_command-read.ensures in
+    let counted = count_noted c.loop-at.p _ _ c.loop-at.invariant.1 c.note-p.ensures in (
       search rules,
       omega arith,
-      rest_more (here fault) c.if-fault-ne0.false (ne_eqb _ 9 c.if-code-eq9.false) c.note-p.ensures (next fault),
+      rest_more here c.if-fault-ne0.false (ne_eqb _ 9 c.if-code-eq9.false) c.note-p.ensures (ap (λ (r : CommandRead). r.next) c.read_command-read.ensures),
     )
 
 pub returns : goal.returns

@@ -1,5 +1,5 @@
 -- `run::order::setting_fault` meets its contract.
-use Rattle.std.proofs.Common.{◌≡◌, ℕ, Bool, cond, ltb, rules}
+use Rattle.std.proofs.Common.{◌≡◌, ℕ, Bool, cond, ltb}
 use Rattle.run.specs.Order.{begun, setting_fault}
 use Rattle.run.specs.declared.order.Places.{Places}
 use Rattle.run.proofs.order.setting_fault.Goals as goal

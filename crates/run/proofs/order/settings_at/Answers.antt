@@ -1,5 +1,5 @@
 -- `run::order::settings_at` meets its contract.
-use Rattle.std.proofs.Common.{◌≡◌, ℕ, Bool, eqb, List, ap, ◌∙◌, rules}
+use Rattle.std.proofs.Common.{◌≡◌, ℕ, Bool, eqb, List, ap, ◌∙◌}
 use lib.Ieee.{Float}
 use Rattle.run.specs.Bytes.{byte_at, float_at}
 use Rattle.run.specs.Order.{settings_at}

@@ -1,5 +1,5 @@
 -- `run::order::switch_of` meets its contract.
-use Rattle.std.proofs.Common.{ap, rules, le-ltb, lt-ltb}
+use Rattle.std.proofs.Common.{ap, le-ltb, lt-ltb}
 use Rattle.run.specs.Order.{switch_of}
 use Rattle.run.specs.declared.order.Command.TheVariants.{Skip}
 use Rattle.run.proofs.order.switch_of.Goals as goal

@@ -1,5 +1,4 @@
 -- `run::order::unless_begun` meets its contract.
-use Rattle.std.proofs.Common.{rules}
 use Rattle.run.specs.Order.{unless_begun}
 use Rattle.run.proofs.order.unless_begun.Goals as goal
 

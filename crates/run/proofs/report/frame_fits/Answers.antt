@@ -1,5 +1,5 @@
 -- `run::report::frame_fits` meets its contract.
-use Rattle.std.proofs.Common.{◌+◌, ◌*◌, sym, arith, rules}
+use Rattle.std.proofs.Common.{◌+◌, ◌*◌, sym, arith}
 use borrow.Author.Tests.{lt-leb}
 use Rattle.run.proofs.report.frame_fits.Goals as goal
 

@@ -1,8 +1,7 @@
 -- `run::report::frame_in` meets its contract.
-use Rattle.std.proofs.Common.{◌≡◌, ◌+◌, ◌-◌, ◌*◌, ◌≤◌, ◌++◌, length, drop, refl, ◌∙◌, arith, rules}
-use Rattle.vectors.specs.Memory.{put}
+use Rattle.std.proofs.Common.{refl, ◌∙◌, arith}
 use Rattle.run.specs.Ascii.{bytes_of}
-use Rattle.run.specs.Report.{numbers, frame_word, newline}
+use Rattle.run.specs.Report.{frame_word}
 use Rattle.run.proofs.Texts.{frame_turn, frame_done}
 use Rattle.run.proofs.report.frame_in.Goals as goal
 

@@ -1,9 +1,7 @@
 -- The invariant: the numbers that are left, put where they belong, make the line asked for.
-use Rattle.std.proofs.Common.{◌≡◌, ◌+◌, ◌-◌, ◌*◌, ◌≤◌, ◌++◌, length, drop, refl, ◌∙◌, arith, rules}
+use Rattle.std.proofs.Common.{◌≡◌, ◌+◌, ◌-◌, ◌*◌, ◌≤◌, ◌++◌, length, drop}
 use Rattle.vectors.specs.Memory.{put}
-use Rattle.run.specs.Ascii.{bytes_of}
-use Rattle.run.specs.Report.{numbers, frame_word, newline}
-use Rattle.run.proofs.Texts.{frame_turn, frame_done}
+use Rattle.run.specs.Report.{numbers, newline}
 use Rattle.run.proofs.report.frame_in.Given as goal
 
 abbrev pub invariant-loop-i : goal.invariant-loop-i

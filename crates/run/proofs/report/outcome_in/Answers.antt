@@ -1,5 +1,5 @@
 -- `run::report::outcome_in` meets its contract.
-use Rattle.std.proofs.Common.{arith, rules}
+use Rattle.std.proofs.Common.{arith}
 use Rattle.run.specs.Report.{outcome_line}
 use Rattle.run.proofs.Texts.{puts_then}
 use Rattle.run.proofs.report.outcome_in.Goals as goal

@@ -1,5 +1,5 @@
 -- `run::report::put_outcome` meets its contract.
-use Rattle.std.proofs.Common.{arith, rules}
+use Rattle.std.proofs.Common.{arith}
 use Rattle.run.specs.Ascii.{bytes_of}
 use Rattle.run.specs.Report.{meant_by, outcome_word}
 use Rattle.run.proofs.Texts.{puts_wider}

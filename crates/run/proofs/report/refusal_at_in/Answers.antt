@@ -1,5 +1,5 @@
 -- `run::report::refusal_at_in` meets its contract.
-use Rattle.std.proofs.Common.{arith, rules}
+use Rattle.std.proofs.Common.{arith}
 use Rattle.run.specs.Ascii.{bytes_of}
 use Rattle.run.specs.Report.{refusal_at_line, refused_word}
 use Rattle.run.proofs.Texts.{puts_wider, puts_then}

@@ -1,5 +1,5 @@
 -- `run::report::write_frame` meets its contract.
-use Rattle.std.proofs.Common.{ℕ, ◌+◌, leb, length, sym, ap, ◌∙◌, rules, leb-true}
+use Rattle.std.proofs.Common.{ℕ, ◌+◌, leb, length, sym, ap, ◌∙◌, leb-true}
 use Rattle.run.specs.ReportLaws.{length_frame}
 use Rattle.run.proofs.Texts.{no_room_lem, has_room}
 use Rattle.run.proofs.report.write_frame.Goals as goal

@@ -1,5 +1,4 @@
 -- `run::report::write_refusal_at` meets its contract.
-use Rattle.std.proofs.Common.{rules}
 use Rattle.run.proofs.Texts.{puts_take, puts_count, as_text}
 use Rattle.run.proofs.report.write_refusal_at.Goals as goal
 

@@ -1,5 +1,5 @@
 -- `run::report::write_text` meets its contract.
-use Rattle.std.proofs.Common.{sym, refl, ◌∙◌, rules, leb-true}
+use Rattle.std.proofs.Common.{sym, refl, ◌∙◌, leb-true}
 use Rattle.run.proofs.Texts.{no_room_lem, has_room}
 use Rattle.run.proofs.report.write_text.Goals as goal
 

@@ -1,5 +1,5 @@
 -- `run::simulate::advance_verdict` meets its contract.
-use Rattle.std.proofs.Common.{◌≡◌, ◌+◌, Bool, true, false, not, ◌&&◌, ltb, length, sym, refl, ap, ◌∙◌, rules}
+use Rattle.std.proofs.Common.{◌+◌, Bool, true, false, not, ◌&&◌, ltb, length, sym, ap, ◌∙◌}
 use Rattle.run.specs.Answers.{refusal_of}
 use Rattle.run.proofs.Refusals.{long, advance_fault, advance_short, advance_many}
 use Rattle.run.proofs.simulate.advance_verdict.Goals as goal

@@ -1,6 +1,6 @@
 -- `run::simulate::attempts` meets its contract.
-use Rattle.std.proofs.Common.{◌≡◌, ℕ, ◌-◌, sym, refl, ap, ◌∙◌, arith, rules, falls}
-use Rattle.run.proofs.Attempts.{GoesOn, starts, live_lent, live_fits, state_long, frames_long, ended_is, full_is, made_fits, can_attempt, goes_on_lem, ends_ended, ends_full, ends_spent, work_left}
+use Rattle.std.proofs.Common.{sym, ◌∙◌, falls}
+use Rattle.run.proofs.Attempts.{starts, live_lent, live_fits, state_long, frames_long, ended_is, full_is, made_fits, can_attempt, goes_on_lem, ends_ended, ends_full, ends_spent, work_left}
 use Rattle.run.proofs.simulate.attempts.Goals as goal
 
 pub loop-made-init : goal.loop-made-init
@@ -24,17 +24,24 @@ shape_of-frames-then-has_ended c = frames_long _ _ _ _ _ c.requires c.loop-made.
 pub returns-then-has_ended : goal.returns-then-has_ended
 returns-then-has_ended c =
     let p = c.requires in
-    let i = c.loop-made.invariant in
-    (ends_ended _ _ _ _ _ p i (sym c.if-has_ended.true ∙ c.has_ended.ensures) _ c.outcome_of-outcome.ensures, work_left _ _ _ _ _ p i)
+    let i = c.loop-made.invariant in record {
+      frames_after = ends_ended _ _ _ _ _ p i (sym c.if-has_ended.true ∙ c.has_ended.ensures) _ c.outcome_of-outcome.ensures;
+      work_unchanged = work_left _ _ _ _ _ p i;
+    }
 
 pub clock_at-clock-requires : goal.clock_at-clock-requires
-clock_at-clock-requires c = let l = live_lent _ _ _ _ _ c.requires c.loop-made.invariant.holds in (l.sound, l.state_fits)
+clock_at-clock-requires c = let l = live_lent _ _ _ _ _ c.requires c.loop-made.invariant.holds in record {
+  s_value = l.sound;
+  s_in_bounds = l.state_fits;
+}
 
 pub is_full-requires : goal.is_full-requires
 is_full-requires c =
     let p = c.requires in
-    let h = c.loop-made.invariant.holds in
-    ((live_lent _ _ _ _ _ p h).sound, live_fits _ _ _ _ _ p h)
+    let h = c.loop-made.invariant.holds in record {
+      s_value = (live_lent _ _ _ _ _ p h).sound;
+      s_bound = live_fits _ _ _ _ _ p h;
+    }
 
 pub shape_of-state-then-is_full : goal.shape_of-state-then-is_full
 shape_of-state-then-is_full c = state_long _ _ _ _ _ c.requires c.loop-made.invariant.holds
@@ -48,11 +55,11 @@ shape_of-frames-then-is_full c = frames_long _ _ _ _ _ c.requires c.loop-made.in
 pub returns-then-is_full : goal.returns-then-is_full
 returns-then-is_full c =
     let p = c.requires in
-    let i = c.loop-made.invariant in (
-      ends_full _ _ _ _ _ p i c.loop-made-test.true (sym c.if-has_ended.false ∙ c.has_ended.ensures) c.clock_at-clock.result
-          c.clock_at-clock.ensures (sym c.if-is_full.true ∙ c.is_full.ensures),
-      work_left _ _ _ _ _ p i,
-    )
+    let i = c.loop-made.invariant in record {
+      frames_after = ends_full _ _ _ _ _ p i c.loop-made-test.true (sym c.if-has_ended.false ∙ c.has_ended.ensures) c.clock_at-clock.result
+          c.clock_at-clock.ensures (sym c.if-is_full.true ∙ c.is_full.ensures);
+      work_unchanged = work_left _ _ _ _ _ p i;
+    }
 
 pub attempt_on-live-requires : goal.attempt_on-live-requires
 attempt_on-live-requires c =
@@ -77,7 +84,7 @@ loop-made-preserved c =
     let going = sym (ended_is _ _ _ _ _ p i.holds) ∙ sym c.has_ended.ensures ∙ c.if-has_ended.false in
     goes_on_lem _ _ _ _ _ p i c.loop-made-test.true going
     (sym (full_is _ _ _ _ _ p i.holds c.clock_at-clock.result c.clock_at-clock.ensures going) ∙ sym c.is_full.ensures ∙ c.if-is_full.false)
-    made.ensures made.auto.1.1.1.0
+    made.ensures made.auto.work
 
 pub outcome_of-outcome-requires-2 : goal.outcome_of-outcome-requires-2
 outcome_of-outcome-requires-2 c = (live_lent _ _ _ _ _ c.requires c.loop-made.invariant.holds).state_fits
@@ -94,5 +101,7 @@ shape_of-frames c = frames_long _ _ _ _ _ c.requires c.loop-made.invariant.holds
 pub returns : goal.returns
 returns c =
     let p = c.requires in
-    let i = c.loop-made.invariant in
-    (ends_spent _ _ _ _ _ p i c.loop-made-test.false _ c.outcome_of-outcome-2.ensures, work_left _ _ _ _ _ p i)
+    let i = c.loop-made.invariant in record {
+      frames_after = ends_spent _ _ _ _ _ p i c.loop-made-test.false _ c.outcome_of-outcome-2.ensures;
+      work_unchanged = work_left _ _ _ _ _ p i;
+    }

@@ -1,6 +1,6 @@
 -- The invariant: the attempts that are left end as those from the start.
-use Rattle.std.proofs.Common.{◌≡◌, ℕ, ◌-◌, sym, refl, ap, ◌∙◌, arith, rules, falls}
-use Rattle.run.proofs.Attempts.{GoesOn, starts, live_lent, live_fits, state_long, frames_long, ended_is, full_is, made_fits, can_attempt, goes_on_lem, ends_ended, ends_full, ends_spent, work_left}
+use Rattle.std.proofs.Common.{◌-◌}
+use Rattle.run.proofs.Attempts.{GoesOn}
 use Rattle.run.proofs.simulate.attempts.Given as goal
 
 abbrev pub invariant-loop-made : goal.invariant-loop-made

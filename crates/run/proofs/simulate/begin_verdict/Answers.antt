@@ -1,5 +1,5 @@
 -- `run::simulate::begin_verdict` meets its contract.
-use Rattle.std.proofs.Common.{◌≡◌, sym, refl, ap, ◌∙◌, le_trans, le_of_eq, lt_of_lt_of_le, rules}
+use Rattle.std.proofs.Common.{sym, ap, ◌∙◌, le_trans, le_of_eq, lt_of_lt_of_le}
 use Rattle.run.specs.Answers.{refusal_of}
 use Rattle.run.proofs.Refusals.{lent_fault, lent_short, lent_skipped, lent_few, lent_room}
 use Rattle.run.proofs.simulate.begin_verdict.Goals as goal

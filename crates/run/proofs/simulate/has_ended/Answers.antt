@@ -1,5 +1,5 @@
 -- `run::simulate::has_ended` meets its contract.
-use Rattle.std.proofs.Common.{◌≡◌, Bool, ◌&&◌, leb, sym, refl, ap, ◌∙◌, rules}
+use Rattle.std.proofs.Common.{Bool, ◌&&◌, leb, sym, ap, ◌∙◌}
 use Rattle.physics.specs.BlackHole.{formed_of}
 use Rattle.run.specs.Model.{state_in}
 use Rattle.run.proofs.Leaves.{late_in}

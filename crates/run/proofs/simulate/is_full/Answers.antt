@@ -1,5 +1,5 @@
 -- `run::simulate::is_full` meets its contract.
-use Rattle.std.proofs.Common.{◌≡◌, ℕ, ◌-◌, ◌*◌, ◌&&◌, ltb, sym, refl, ap, ◌∙◌, arith, rules}
+use Rattle.std.proofs.Common.{ℕ, ◌-◌, ◌*◌, ◌&&◌, ltb, ap, ◌∙◌, arith}
 use Rattle.run.proofs.simulate.is_full.Goals as goal
 
 pub overflow_mul-count : goal.overflow_mul-count

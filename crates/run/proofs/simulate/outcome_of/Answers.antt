@@ -1,5 +1,5 @@
 -- `run::simulate::outcome_of` meets its contract.
-use Rattle.std.proofs.Common.{◌≡◌, Bool, true, false, ◌&&◌, leb, sym, refl, ap, ◌∙◌, rules}
+use Rattle.std.proofs.Common.{Bool, true, false, ◌&&◌, leb, sym, ap, ◌∙◌}
 use Rattle.physics.specs.BlackHole.{formed_of}
 use Rattle.run.specs.Model.{state_in}
 use Rattle.run.specs.Outcome.{Outcome}

@@ -1,5 +1,5 @@
 -- `run::simulate::record_after` meets its contract.
-use Rattle.std.proofs.Common.{sym, ap, rules}
+use Rattle.std.proofs.Common.{sym, ap}
 use Rattle.run.specs.Answers.{record_after}
 use Rattle.run.proofs.simulate.record_after.Goals as goal
 

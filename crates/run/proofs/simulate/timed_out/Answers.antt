@@ -1,5 +1,5 @@
 -- `run::simulate::timed_out` meets its contract.
-use Rattle.std.proofs.Common.{◌≡◌, Bool, ◌&&◌, sym, refl, ap, ◌∙◌, rules, le-leb}
+use Rattle.std.proofs.Common.{Bool, ◌&&◌, sym, ap, ◌∙◌, le-leb}
 use lib.Ieee.{lt}
 use borrow.Author.Tests.{lt-leb}
 use Rattle.run.proofs.simulate.timed_out.Goals as goal

@@ -1,5 +1,5 @@
 -- `run::simulate::too_short` meets its contract.
-use Rattle.std.proofs.Common.{◌≡◌, ℕ, ltb, sym, refl, ap, ◌∙◌, le_trans, le_of_eq, lt_of_lt_of_le, rules}
+use Rattle.std.proofs.Common.{ltb, sym, ap, le_trans, le_of_eq, lt_of_lt_of_le}
 use Rattle.run.proofs.Refusals.{short_state, short_work}
 use Rattle.run.proofs.simulate.too_short.Goals as goal
 

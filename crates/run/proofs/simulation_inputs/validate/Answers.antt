@@ -1,5 +1,5 @@
 -- `run::simulation_inputs::validate` meets its contract.
-use Rattle.std.proofs.Common.{arith, rules}
+use Rattle.std.proofs.Common.{arith}
 use lib.Ieee.{of_bits}
 use Rattle.vectors.proofs.Floats.{whole_in_lem}
 use Rattle.vectors.specs.GridLaws.{Level, below_range, above_range, points_bound}

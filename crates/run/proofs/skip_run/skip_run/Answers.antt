@@ -7,12 +7,12 @@ pub returns-in-Refused : goal.returns-in-Refused
 returns-in-Refused c =
     let a = c.args in
     let call = c.begin-begun in
-    refused_ran a.s a.amplitude a.state.now a.work.now [] refl a.budget call.result _ _ _ call.ensures.0 call.ensures.1 _ c.in-Refused.is
+    refused_ran a.s a.amplitude a.state.now a.work.now [] refl a.budget call.result _ _ _ call.ensures.frames_after call.ensures.work_unchanged _ c.in-Refused.is
 
 pub returns-in-Accepted : goal.returns-in-Accepted
 returns-in-Accepted c =
     let a = c.args in
     let call = c.begin-begun in
     let last = c.advance-advanced in
-    accepted_ran a.s a.amplitude a.state.now a.work.now [] refl a.budget call.result _ _ _ call.ensures.0 call.ensures.1
-    _ _ c.in-Accepted.is (search rules) last.result _ _ _ last.ensures.0 last.ensures.1 _ c.told.ensures
+    accepted_ran a.s a.amplitude a.state.now a.work.now [] refl a.budget call.result _ _ _ call.ensures.frames_after call.ensures.work_unchanged
+    _ _ c.in-Accepted.is (search rules) last.result _ _ _ last.ensures.frames_after last.ensures.work_unchanged _ c.told.ensures

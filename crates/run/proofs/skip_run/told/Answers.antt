@@ -1,5 +1,5 @@
 -- `run::skip_run::told` meets its contract.
-use Rattle.std.proofs.Common.{sym, ap, rules}
+use Rattle.std.proofs.Common.{sym, ap}
 use Rattle.run.specs.Answers.{reply_of}
 use Rattle.run.specs.SkipRun.{ran_by}
 use Rattle.run.proofs.skip_run.told.Goals as goal

@@ -1,5 +1,5 @@
 -- `run::state_output_builder::compute_radial_gradient` meets its contract: `diff` refuses nothing here.
-use Rattle.std.proofs.Common.{◌≡◌, ℕ, ◌+◌, ◌-◌, ◌*◌, true, List, length, take, drop, sym, refl, ap, ◌∙◌, arith, rules, eq-eqb}
+use Rattle.std.proofs.Common.{◌≡◌, ℕ, ◌+◌, ◌-◌, ◌*◌, true, List, length, take, drop, sym, refl, ap, ◌∙◌, arith, eq-eqb}
 use lib.Ieee.{Float}
 use Rattle.vectors.specs.declared.answer.Answer.{Answer}
 use Rattle.vectors.specs.Answer.{number_of, left_by, left_at, left_is}

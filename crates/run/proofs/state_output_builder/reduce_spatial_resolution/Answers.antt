@@ -1,24 +1,20 @@
 -- `run::state_output_builder::reduce_spatial_resolution` meets its contract.
-use Rattle.std.proofs.Common.{◌≡◌, ◌-◌, ◌*◌, ◌<◌, ◌≤◌, length, get_or, refl, arith, length-set, rules}
+use Rattle.std.proofs.Common.{refl, arith, length-set, rules}
 use lib.Ieee.{nan}
-use Rattle.vectors.specs.MemoryLaws.{Grown, grown_none, grown_step, grown_put, length_tab}
+use Rattle.vectors.specs.MemoryLaws.{grown_none, grown_step, grown_put, length_tab}
 use Rattle.run.proofs.state_output_builder.reduce_spatial_resolution.Goals as goal
-
--- the number that a turn reads
-inside : (c : goal.In-loop-j → let a = c.args in c.loop-j.j * a.step < length a.vector.now
-inside c = c.requires.0.inside c.loop-j.j c.loop-j-test.true
 
 pub loop-j-init : goal.loop-j-init
 loop-j-init c = (grown_none _ 0 _ _, omega arith, refl)
 
 pub overflow_mul-frames : goal.overflow_mul-frames
-overflow_mul-frames c = let h = inside c in omega arith
+overflow_mul-frames c = let h = c.requires.0.inside c.loop-j.j c.loop-j-test.true in omega arith
 
 pub offset_bounds-vector-j : goal.offset_bounds-vector-j
-offset_bounds-vector-j c = let h = inside c in search rules
+offset_bounds-vector-j c = let h = c.requires.0.inside c.loop-j.j c.loop-j-test.true in search rules
 
 pub bounds-vector-j : goal.bounds-vector-j
-bounds-vector-j c = inside c.before
+bounds-vector-j c = c.requires.0.inside c.loop-j.j c.loop-j-test.true
 
 pub loop-j-preserved : goal.loop-j-preserved
 loop-j-preserved c =

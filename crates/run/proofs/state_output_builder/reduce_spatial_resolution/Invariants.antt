@@ -1,7 +1,7 @@
 -- The invariant: the samples before j are written, the other numbers are as they were.
-use Rattle.std.proofs.Common.{◌≡◌, ◌-◌, ◌*◌, ◌<◌, ◌≤◌, length, get_or, refl, arith, length-set, rules}
+use Rattle.std.proofs.Common.{◌≡◌, ◌-◌, ◌*◌, ◌≤◌, length, get_or}
 use lib.Ieee.{nan}
-use Rattle.vectors.specs.MemoryLaws.{Grown, grown_none, grown_step, grown_put, length_tab}
+use Rattle.vectors.specs.MemoryLaws.{Grown}
 use Rattle.run.proofs.state_output_builder.reduce_spatial_resolution.Given as goal
 
 abbrev pub invariant-loop-j : goal.invariant-loop-j

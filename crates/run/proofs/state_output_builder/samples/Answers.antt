@@ -1,5 +1,5 @@
 -- `run::state_output_builder::samples` meets its contract.
-use Rattle.std.proofs.Common.{◌≤◌, sym, arith, pow_mono, rules}
+use Rattle.std.proofs.Common.{◌≤◌, sym, arith, pow_mono}
 use Rattle.run.specs.FramesLaws.{samples_in, samples_out}
 use Rattle.run.proofs.state_output_builder.Shifts.{shifted}
 use Rattle.run.proofs.state_output_builder.samples.Goals as goal

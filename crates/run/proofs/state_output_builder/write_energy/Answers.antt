@@ -1,5 +1,5 @@
 -- `run::state_output_builder::write_energy` meets its contract.
-use Rattle.std.proofs.Common.{◌+◌, ◌*◌, List, refl, ap, ◌∙◌, arith, length-set, rules}
+use Rattle.std.proofs.Common.{◌+◌, ◌*◌, List, refl, ap, ◌∙◌, arith, length-set}
 use lib.Ieee.{Float}
 use Rattle.vectors.specs.MemoryLaws.{lent}
 use Rattle.physics.specs.TotalEnergy.{last_of}

@@ -1,5 +1,5 @@
 -- `run::state_output_builder::write_fields` meets its contract.
-use Rattle.std.proofs.Common.{arith, rules}
+use Rattle.std.proofs.Common.{arith}
 use Rattle.vectors.specs.MemoryLaws.{length_tab}
 use Rattle.run.specs.WriteLaws.{wrote_both}
 use Rattle.run.proofs.state_output_builder.write_fields.Goals as goal

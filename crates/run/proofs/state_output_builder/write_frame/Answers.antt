@@ -1,5 +1,5 @@
 -- `run::state_output_builder::write_frame` meets its contract.
-use Rattle.std.proofs.Common.{◌≡◌, ℕ, ◌+◌, ◌-◌, ◌*◌, ◌%◌, ◌^◌, ◌≤◌, List, length, take, drop, refl, ap, ◌∙◌, arith, rules}
+use Rattle.std.proofs.Common.{◌≡◌, ℕ, ◌+◌, ◌-◌, ◌*◌, ◌%◌, ◌^◌, ◌≤◌, List, length, take, drop, refl, ap, ◌∙◌, arith}
 use lib.Ieee.{Float, nan}
 use Rattle.vectors.specs.Grid.{points_of, spacing_of}
 use Rattle.vectors.specs.Memory.{part, put}

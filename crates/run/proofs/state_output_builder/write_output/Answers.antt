@@ -1,5 +1,5 @@
 -- `run::state_output_builder::write_output` meets its contract.
-use Rattle.std.proofs.Common.{◌≡◌, length, refl, ◌∙◌, arith, length-set, rules}
+use Rattle.std.proofs.Common.{◌≡◌, length, refl, ◌∙◌, arith, length-set}
 use Rattle.run.specs.FrameWriting.{wrote_output}
 use Rattle.run.specs.WriteLaws.{wrote-length, wrote_one}
 use Rattle.run.proofs.state_output_builder.write_output.Goals as goal
@@ -12,16 +12,16 @@ write_fields-requires c =
 pub write_constraints-requires : goal.write_constraints-requires
 write_constraints-requires c =
     let pre = c.requires in
-    (pre.0, omega (arith, pre, (let it : length c.write_fields.new.1.1.1.1.1.0 ≡ length c.args.frames.now = wrote-length c.write_fields.ensures ∙ simp length-set in it)))
+    (pre.0, omega (arith, pre, (let it : length c.write_fields.new.frames ≡ length c.args.frames.now = wrote-length c.write_fields.ensures ∙ simp length-set in it)))
 
 pub write_energy-requires : goal.write_energy-requires
 write_energy-requires c =
     let pre = c.requires in
-    (pre.0, omega (arith, pre, (let it : length c.write_fields.new.1.1.1.1.1.0 ≡ length c.args.frames.now = wrote-length c.write_fields.ensures ∙ simp length-set in it), wrote-length c.write_constraints.ensures))
+    (pre.0, omega (arith, pre, (let it : length c.write_fields.new.frames ≡ length c.args.frames.now = wrote-length c.write_fields.ensures ∙ simp length-set in it), wrote-length c.write_constraints.ensures))
 
 pub shape_of-frames : goal.shape_of-frames
 shape_of-frames c =
-    wrote-length c.write_energy.ensures ∙ wrote-length c.write_constraints.ensures ∙ (let it : length c.write_fields.new.1.1.1.1.1.0 ≡ length c.args.frames.now = wrote-length c.write_fields.ensures ∙ simp length-set in it)
+    wrote-length c.write_energy.ensures ∙ wrote-length c.write_constraints.ensures ∙ (let it : length c.write_fields.new.frames ≡ length c.args.frames.now = wrote-length c.write_fields.ensures ∙ simp length-set in it)
 
 pub returns : goal.returns
 returns c =

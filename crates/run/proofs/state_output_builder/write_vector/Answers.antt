@@ -1,5 +1,5 @@
 -- `run::state_output_builder::write_vector` meets its contract.
-use Rattle.std.proofs.Common.{◌+◌, ◌*◌, refl, rules}
+use Rattle.std.proofs.Common.{◌+◌, ◌*◌, refl}
 use Rattle.vectors.specs.MemoryLaws.{lent, length_part}
 use Rattle.run.proofs.state_output_builder.write_vector.Goals as goal
 

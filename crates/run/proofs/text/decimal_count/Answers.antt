@@ -1,6 +1,6 @@
 -- `run::text::decimal_count` meets its contract.
-use Rattle.std.proofs.Common.{arith, rules}
-use Rattle.run.proofs.Texts.{Counted, counted_first, counted_turn, counted_last}
+use Rattle.std.proofs.Common.{arith}
+use Rattle.run.proofs.Texts.{counted_first, counted_turn, counted_last}
 use Rattle.run.proofs.text.decimal_count.Goals as goal
 
 pub loop-rest-init : goal.loop-rest-init

@@ -1,5 +1,4 @@
-use Rattle.std.proofs.Common.{arith, rules}
-use Rattle.run.proofs.Texts.{Counted, counted_first, counted_turn, counted_last}
+use Rattle.run.proofs.Texts.{Counted}
 use Rattle.run.proofs.text.decimal_count.Given as goal
 
 abbrev pub invariant-loop-rest : goal.invariant-loop-rest

@@ -1,5 +1,5 @@
 -- `run::text::digit_byte` meets its contract.
-use Rattle.std.proofs.Common.{rules, le-ltb, lt-ltb}
+use Rattle.std.proofs.Common.{le-ltb, lt-ltb}
 use Rattle.run.specs.Report.{digit_byte}
 use Rattle.run.proofs.text.digit_byte.Goals as goal
 

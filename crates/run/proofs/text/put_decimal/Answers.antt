@@ -1,5 +1,5 @@
 -- `run::text::put_decimal` meets its contract.
-use Rattle.std.proofs.Common.{refl, ◌∙◌, arith, length-set, rules}
+use Rattle.std.proofs.Common.{refl, ◌∙◌, arith, length-set}
 use Rattle.run.specs.Report.{decimal}
 use Rattle.run.proofs.Texts.{puts_digits}
 use Rattle.run.proofs.text.put_decimal.Goals as goal

@@ -1,8 +1,6 @@
 -- `run::text::put_digits` meets its contract.
-use Rattle.std.proofs.Common.{◌≡◌, ◌+◌, ◌-◌, ◌≤◌, length, sym, refl, ◌∙◌, mod-lt, arith, length-set, rules}
+use Rattle.std.proofs.Common.{◌+◌, ◌-◌, sym, refl, ◌∙◌, mod-lt, arith, length-set}
 use native.Mathlib.Nat.{sub-zero}
-use Rattle.vectors.specs.Memory.{put}
-use Rattle.run.specs.Report.{digits}
 use Rattle.run.proofs.Texts.{digit_turn, digits_none}
 use Rattle.run.proofs.text.put_digits.Goals as goal
 

@@ -1,9 +1,7 @@
 -- The invariant: the digits that are left, put where they belong, make the text asked for.
-use Rattle.std.proofs.Common.{◌≡◌, ◌+◌, ◌-◌, ◌≤◌, length, sym, refl, ◌∙◌, mod-lt, arith, length-set, rules}
-use native.Mathlib.Nat.{sub-zero}
+use Rattle.std.proofs.Common.{◌≡◌, ◌+◌, ◌-◌, ◌≤◌, length}
 use Rattle.vectors.specs.Memory.{put}
 use Rattle.run.specs.Report.{digits}
-use Rattle.run.proofs.Texts.{digit_turn, digits_none}
 use Rattle.run.proofs.text.put_digits.Given as goal
 
 abbrev pub invariant-loop-done : goal.invariant-loop-done

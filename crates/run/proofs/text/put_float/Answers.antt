@@ -1,5 +1,5 @@
 -- `run::text::put_float` meets its contract.
-use Rattle.std.proofs.Common.{refl, ◌∙◌, arith, length-set, rules}
+use Rattle.std.proofs.Common.{refl, ◌∙◌, arith, length-set}
 use Rattle.run.specs.Report.{hex}
 use Rattle.run.proofs.Texts.{puts_digits}
 use Rattle.run.proofs.text.put_float.Goals as goal

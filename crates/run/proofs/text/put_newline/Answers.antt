@@ -1,5 +1,5 @@
 -- `run::text::put_newline` meets its contract.
-use Rattle.std.proofs.Common.{arith, rules}
+use Rattle.std.proofs.Common.{arith}
 use Rattle.run.proofs.Texts.{puts_one}
 use Rattle.run.proofs.text.put_newline.Goals as goal
 

@@ -1,6 +1,5 @@
 -- `run::text::put_word` meets its contract.
-use Rattle.std.proofs.Common.{◌≡◌, ◌+◌, ◌-◌, ◌≤◌, length, drop, sym, refl, ◌∙◌, add-zero, arith, length-set, rules}
-use Rattle.vectors.specs.Memory.{put}
+use Rattle.std.proofs.Common.{◌+◌, sym, refl, ◌∙◌, add-zero, arith, length-set}
 use Rattle.run.proofs.Texts.{puts_all, word_turn, word_none}
 use Rattle.run.proofs.text.put_word.Goals as goal
 

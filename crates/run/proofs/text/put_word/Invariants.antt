@@ -1,7 +1,6 @@
 -- The invariant: the bytes that are left, put where they belong, make the text asked for.
-use Rattle.std.proofs.Common.{◌≡◌, ◌+◌, ◌-◌, ◌≤◌, length, drop, sym, refl, ◌∙◌, add-zero, arith, length-set, rules}
+use Rattle.std.proofs.Common.{◌≡◌, ◌+◌, ◌-◌, ◌≤◌, length, drop}
 use Rattle.vectors.specs.Memory.{put}
-use Rattle.run.proofs.Texts.{puts_all, word_turn, word_none}
 use Rattle.run.proofs.text.put_word.Given as goal
 
 abbrev pub invariant-loop-i : goal.invariant-loop-i

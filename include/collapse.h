@@ -1,4 +1,4 @@
-/* Scalar field collapse in budgets: the functions of crates/capi, for C and whatever calls C. `rt staticlib capi` writes
+/* Scalar field collapse in budgets: the functions of crates/capi, for C and whatever calls C. `tools/build capi` writes
    the archive, target/staticlib/libcapi.a, which needs no other library.
 
    A memory is a pointer, then how many numbers there are: doubles, or the bytes of collapse_spell. No two memories of a

@@ -1,6 +1,8 @@
 // Runs, searches and spellings for C, Rust and Python to link: begin and advance of the crate run, the search of the crate
 // threshold and the writer of the crate order_forms, over plain numbers, pointers to one number, and slices, each a pointer
 // and then a length. include/collapse.h names every function and number.
+#![tactic(auto)]
+
 ghost use Rattle.std.specs.Prelude.{◌≡◌, length, drop};
 ghost use Rattle.run.specs.Frames.{frame_size_at};
 ghost use Rattle.capi.specs.Sizes.{state_size_of, work_size_of};

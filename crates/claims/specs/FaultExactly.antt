@@ -20,7 +20,7 @@ use Rattle.run.specs.declared.order.Command.{Command}
 use Rattle.run.specs.declared.order.Command.TheVariants.{Skip, End, Wrong}
 use Rattle.run.specs.declared.order.Places.{Places}
 use Rattle.run.specs.declared.order.Read.TheVariants.{Refused}
-use Rattle.claims.specs.OrderFaults.{kind, Sound, and, HasFault, unknown, cut, switch, misplaced, no_end, after_end}
+use Rattle.claims.specs.OrderFaults.{kind, Sound, HasFault, unknown, cut, switch, misplaced, no_end, after_end}
 use Rattle.claims.specs.OrderFaults.{Faulty, at_command, at_length, behind_end}
 use Rattle.claims.specs.CommandBytesLaws.{operand_at, encodes}
 use Rattle.claims.specs.BytesExactly.{split_operand}

@@ -1,5 +1,5 @@
 -- Demand 3 is not empty for full and refused calls either: a list of calls that are answered full, refused 14, refused 11, and then an end.
-use Rattle.std.specs.Prelude.{ℕ, ◌+◌, ◌-◌, true, false, not, ◌≡◌, refl, Float}
+use Rattle.std.specs.Prelude.{ℕ, ◌+◌, true, false, ◌≡◌, refl, Float}
 use mathlib.Core.List.{List, [], ◌∷◌}
 use Rattle.std.proofs.Common.{sym, ◌∙◌}
 use Rattle.std.proofs.Math.Path.{ap}

@@ -1,5 +1,5 @@
 -- The reader's places and the commands that came: a command has a fault after the places exactly where it is misplaced after the commands.
-use Rattle.std.specs.Prelude.{ℕ, zero, suc, ◌+◌, ◌<◌, Bool, ◌&&◌, List, [], ◌∷◌, ◌++◌, eqb}
+use Rattle.std.specs.Prelude.{ℕ, zero, suc, ◌<◌, Bool, ◌&&◌, List, [], ◌∷◌, ◌++◌, eqb}
 use Rattle.std.proofs.Math.Bool.{true, false, cond}
 use Rattle.std.proofs.Common.{true≢false, ◌∙◌, arith}
 use Rattle.std.proofs.Math.Path.{◌≡◌, refl, sym, ap, subst}

@@ -14,7 +14,7 @@ use Rattle.run.specs.PlainRun.{Machine, ended, has_ended, outcome, outcome_of, s
 use Rattle.run.specs.PlainRunLaws.{attempt_ended}
 use Rattle.run.specs.SkipRun.{Ran, ran_to, ran_at}
 use Rattle.run.specs.Tally.{too_many}
-use Rattle.threshold.specs.Halving.{collapses, used, adjacent, stop, halve}
+use Rattle.threshold.specs.Halving.{used, adjacent, stop, halve}
 use Rattle.threshold.specs.Search.{amplitude_at, ends_refusal, Sought, refused_search, found, side_at, sought_of, search_of}
 use Rattle.claims.specs.CollapsedAtOnce.{sixty_four, hundred_twenty_eight, at, mass64, no_nan_64, collapses_64, mass128, no_nan_128, collapses_128}
 use Rattle.claims.specs.FlatSpace.{nought}

@@ -1,7 +1,7 @@
 -- Every order's output is whole, or one refusal; and no proper front of whole lines is whole.
-use Rattle.std.specs.Prelude.{ℕ, zero, suc, ◌+◌, ◌<◌, ◌≤◌, Bool, cond, ◌||◌, ◌&&◌, ◌≡◌, eqb, leb, Float, length, drop}
+use Rattle.std.specs.Prelude.{ℕ, zero, suc, ◌+◌, Bool, cond, ◌≡◌, Float, length, drop}
 use Rattle.std.proofs.Math.Bool.{true, false}
-use Rattle.std.proofs.Common.{true≢false, sym, ◌∙◌, ap, arith, drop_at}
+use Rattle.std.proofs.Common.{sym, ◌∙◌, ap, arith, drop_at}
 use Rattle.std.proofs.lemmas.Bool.{false≢true}
 use mathlib.Core.List.{List, [], ◌∷◌, ◌++◌, map, append_assoc}
 use Rattle.std.proofs.Math.Option.{Option, none, some}
@@ -16,16 +16,16 @@ use Rattle.run.specs.Calls.{begin_refusal}
 use Rattle.run.specs.FrameLaws.{Each}
 use Rattle.run.specs.FrameLaws as each
 use Rattle.run.specs.Lines.{Line, frame, outcome, refusal, refusal_at}
-use Rattle.run.specs.Model.{first_state, frame_of, frame_count}
+use Rattle.run.specs.Model.{frame_count}
 use Rattle.run.specs.Order.{read_order}
-use Rattle.run.specs.OrderLines.{lent_state, lent_work, lent_frames, Printed, frames_over, advance_lines, advances_lines, run_lines, budgets_from, read_lines, lines_of}
+use Rattle.run.specs.OrderLines.{lent_state, lent_work, lent_frames, Printed, frames_over, advances_lines, run_lines, budgets_from, read_lines, lines_of}
 use Rattle.run.specs.OrderLinesLaws.{Lendable, lendable, plain_lines, advance_prints}
 use Rattle.run.specs.PlainRun.{start, plain_run, has_ended, outcome_of, option}
 use Rattle.run.specs.PlainRunLaws.{plain_run_formed, plain_run_skipped}
 use Rattle.run.specs.Tally.{too_many}
 use Rattle.claims.specs.RefusalNumbers.{among, refusal_among, among_longer, program_refusals, program_refusals_lem}
 use Rattle.claims.specs.FaultExactly.{refused_number}
-use Rattle.claims.specs.WholeOutput.{ends_advance, Advances, no_advance, advance, first_frames, Whole, refuses_order, Output, carried_out, refused}
+use Rattle.claims.specs.WholeOutput.{ends_advance, Advances, no_advance, advance, first_frames, Whole, Output, carried_out, refused}
 
 -- ---- what the advances of an order print
 each_drop : {F : ℕ} {fs : List (List Float)} (k : ℕ) → Each F fs → Each F (drop k fs)

@@ -1,1 +1,3 @@
+#![tactic(auto)]
+
 // Theorems about runs and orders that no code needs: specs/ has them.

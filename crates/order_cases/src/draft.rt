@@ -1,7 +1,6 @@
 // Writes the bytes of an order from its row of the table and its commands.
 use crate::sequences::commands;
 use crate::table::WHOLE;
-use std::num::{wrapping_add_u64, wrapping_add_usize, wrapping_sub_u64};
 
 // Commands are hexadecimal digits, the first the highest of 16. 0: the end. 1 to 9: that command. A, B, C: the bytes 00,
 // 0A, FF. D: the switch 2. E, F: advances at every place before 4,090, before 4,095.
@@ -40,7 +39,7 @@ pub fn write(k: u64, row: &[u64; 12], bytes: &mut [u8; 4100]) -> usize {
     if row[10] == WHOLE {
         return pen.end;
     }
-    wrapping_add_u64(row[10], wrapping_sub_u64(k, row[0])) as usize
+    row[10].wrapping_add(k.wrapping_sub(row[0])) as usize
 }
 
 fn moved(row: &[u64; 12], pen: Pen) -> Pen {
@@ -62,7 +61,7 @@ fn next_command(row: &[u64; 12], pen: Pen) -> Pen {
     let sizes = SIZES;
     let digit = (pen.digits / 1152921504606846976) as usize;
     let size = sizes[digit];
-    let end = wrapping_add_usize(pen.end, size);
+    let end = pen.end.wrapping_add(size);
     Pen {
         byte: codes[digit],
         digits: digits_after(pen.digits, digit, end),

@@ -1,6 +1,7 @@
 // Lent bytes: what a call of the writer answers and leaves there.
 use crate::bytes::{least, with};
 use order_forms::spelling::{Spelled, spell};
+use std::io;
 
 // How many bytes were lent, the answer, and a digest of all of them afterwards.
 #[derive(Clone, Copy)]
@@ -11,15 +12,15 @@ pub struct Answered {
 }
 
 // The order spelled into one byte less than it has (not where it has none), into as many and into three more.
-pub fn line(order: &[u8]) {
+pub fn line(rt: &impl Print, order: &[u8]) -> io::Result<()> {
     let n = least(order.len(), 4100);
-    io::write_all(1, b"spelled");
+    print!(rt; "spelled")?;
     if n > 0 {
-        print(call(order, n - 1));
+        print(rt, call(order, n - 1))?;
     }
-    print(call(order, n));
-    print(call(order, n + 3));
-    io::write_all(1, b"\n");
+    print(rt, call(order, n))?;
+    print(rt, call(order, n + 3))?;
+    println!(rt)
 }
 
 pub fn call(order: &[u8], room: usize) -> Answered {
@@ -49,22 +50,21 @@ fn filler(i: usize) -> u8 {
     ((37 * (i % 256) + 11) % 256) as u8
 }
 
-pub fn print(call: Answered) {
-    number(b" in ", call.room as u64);
+pub fn print(rt: &impl Print, call: Answered) -> io::Result<()> {
+    number(rt, " in ", call.room as u64)?;
     let answer = call.answer;
     match answer {
         Spelled::Refused(n, position) => {
-            number(b" refused ", n as u64);
-            number(b" ", position as u64);
+            number(rt, " refused ", n as u64)?;
+            number(rt, " ", position as u64)?;
         }
-        Spelled::NoRoom => number(b" refused ", 17),
-        Spelled::To(end) => number(b" ends ", end as u64),
+        Spelled::NoRoom => number(rt, " refused ", 17)?,
+        Spelled::To(end) => number(rt, " ends ", end as u64)?,
     }
-    number(b" ", call.digest);
+    number(rt, " ", call.digest)
 }
 
 // The word and n.
-pub fn number(word: &[u8], n: u64) {
-    io::write_all(1, word);
-    io::print_decimal(1, n);
+pub fn number(rt: &impl Print, word: &str, n: u64) -> io::Result<()> {
+    print!(rt; "{word}{n}")
 }

@@ -4,7 +4,7 @@ use crate::draft::write;
 use crate::lent::{Answered, call, number, print};
 use crate::table::WHOLE;
 use order_forms::spelling::Spelled;
-use std::num::{wrapping_add_u64, wrapping_add_usize};
+use std::io;
 
 const SEQUENCES: usize = 720;
 
@@ -21,18 +21,18 @@ struct Sum {
     same: u64,
 }
 
-pub fn line() {
+pub fn line(rt: &impl Print) -> io::Result<()> {
     let mut input = [0u8; 4100];
     let length = write_order(0, &mut input);
     let first = spelled(length, &input);
     let sum = of_all(first);
-    number(b"sequences ", SEQUENCES as u64);
-    number(b" bytes ", length as u64);
-    number(b" ", sum.digest);
-    io::write_all(1, b" spelled");
-    print(first);
-    number(b" same ", sum.same);
-    io::write_all(1, b"\n");
+    number(rt, "sequences ", SEQUENCES as u64)?;
+    number(rt, " bytes ", length as u64)?;
+    number(rt, " ", sum.digest)?;
+    print!(rt; " spelled")?;
+    print(rt, first)?;
+    number(rt, " same ", sum.same)?;
+    println!(rt)
 }
 
 fn of_all(first: Answered) -> Sum {
@@ -76,7 +76,7 @@ fn digits(k: usize) -> u64 {
     let mut rest = k;
     let mut taken = 0;
     for i in 0..6usize {
-        let j = wrapping_add_usize(i, rest % (6 - i)) % 6;
+        let j = i.wrapping_add(rest % (6 - i)) % 6;
         taken = taken % 1152921504606846976 * 16 + left[j] % 16;
         left[j] = left[i];
         rest = rest / (6 - i);
@@ -86,7 +86,7 @@ fn digits(k: usize) -> u64 {
 
 fn counted(count: u64, made: Answered, first: Answered) -> u64 {
     if made.digest == first.digest && end_of(made) == end_of(first) {
-        return wrapping_add_u64(count, 1);
+        return count.wrapping_add(1);
     }
     count
 }

@@ -1,5 +1,4 @@
 // The commands of the orders. Orders 90 to 278 have the same settings and these, the others those of their row.
-use std::num::wrapping_sub_u64;
 
 #[rattlefmt::skip]
 const SEQUENCES: [u64; 189] = [
@@ -46,7 +45,7 @@ const SEQUENCES: [u64; 189] = [
 
 pub fn commands(k: u64, of_row: u64) -> u64 {
     let table = SEQUENCES;
-    let i = wrapping_sub_u64(k, 90);
+    let i = k.wrapping_sub(90);
     if i < 189 {
         return table[i as usize];
     }

@@ -1,5 +1,5 @@
 -- Where the commands of an accepted order stand: the settings before byte 33, none over another, 07 there, an 08 every five bytes, 09 last.
-use Prim.Native.Nat.{ℕ, zero, suc, ◌+◌, ◌-◌, ◌*◌, ◌≤◌, ◌<◌}
+use Prim.Native.Nat.{ℕ, zero, suc, ◌+◌, ◌*◌, ◌≤◌, ◌<◌}
 use Rattle.std.specs.Prelude.{Bool, true, false, ◌⊎◌, ◌≢◌, List, ◌≡◌, ltb, eqb, length}
 use Rattle.std.proofs.Math.Bool.{cond}
 use Rattle.std.proofs.Common.{true≢false, sym, ◌∙◌}

@@ -1,2 +1,4 @@
 // Forms of orders: one spelling for each.
+#![tactic(auto)]
+
 pub mod spelling;

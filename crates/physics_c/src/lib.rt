@@ -1,5 +1,7 @@
 // Functions of the crate physics for C or Rust to link. A slice is a pointer, then a length. Each answers 0, or 5 or 11
 // where it refuses, and then leaves both memories as they were.
+#![tactic(auto)]
+
 ghost use Rattle.std.specs.Prelude.{◌≡◌, ◌*◌, length};
 ghost use Rattle.vectors.specs.Answer.{number_of, left_at};
 ghost use Rattle.vectors.specs.Fault.{fault_of};

@@ -2,76 +2,79 @@
 use cases::digest::digest;
 use physics::constraints::{BlackHole, black_hole_mass};
 use physics::state::total_energy;
+use std::io;
 use vectors::bits::bits_of;
 
 // Prints a text with the values one after the other: in decimal for each #, in hexadecimal for each $.
-pub fn say(text: &[u8], values: [u64; 7]) {
+pub fn say(rt: &impl Print, text: &[u8], values: [u64; 7]) -> io::Result<()> {
     let mut next = 0;
     for i in 0..text.len() {
-        next = piece(text[i], values[next % 7], next % 7);
+        next = piece(rt, text[i], values[next % 7], next % 7)?;
     }
+    Ok(())
 }
 
 // Prints a byte of a text, or the value in its place; which value is next.
-fn piece(byte: u8, value: u64, next: usize) -> usize {
+fn piece(rt: &impl Print, byte: u8, value: u64, next: usize) -> io::Result<usize> {
     match byte {
         b'#' => {
-            io::print_decimal(1, value);
-            next % 7 + 1
+            print!(rt; "{value}")?;
+            Ok(next % 7 + 1)
         }
         b'$' => {
-            io::print_hex(1, value, 16);
-            next % 7 + 1
+            print!(rt; "{value:016x}")?;
+            Ok(next % 7 + 1)
         }
         _ => {
-            io::write_all(1, &[byte]);
-            next
+            rt.write_all(&[byte])?;
+            Ok(next)
         }
     }
 }
 
 // The rest of a state's line, after the case. A state is its eight vectors.
-pub fn state(time: f64, broken: bool, vectors: &[f64]) {
+pub fn state(rt: &impl Print, time: f64, broken: bool, vectors: &[f64]) -> io::Result<()> {
     let n = vectors.len() / 8;
     let mass = 4 * n;
     let radial_factor = 5 * n;
     let lapse = 6 * n;
-    say(b" time $ vectors", [bits_of(time), 0, 0, 0, 0, 0, 0]);
-    digests(vectors);
+    say(rt, b" time $ vectors", [bits_of(time), 0, 0, 0, 0, 0, 0])?;
+    digests(rt, vectors)?;
     ends(
+        rt,
         &vectors[radial_factor..lapse],
         &vectors[mass..radial_factor],
-    );
+    )?;
     if broken {
-        io::write_all(1, b" nan yes\n");
+        println!(rt; " nan yes")
     } else {
-        io::write_all(1, b" nan no\n");
+        println!(rt; " nan no")
     }
 }
 
-fn digests(vectors: &[f64]) {
+fn digests(rt: &impl Print, vectors: &[f64]) -> io::Result<()> {
     let n = vectors.len() / 8;
     for k in 0..8 {
         let from = n * k;
         let to = from + n;
-        say(b" #", [digest(&vectors[from..to]), 0, 0, 0, 0, 0, 0]);
+        say(rt, b" #", [digest(&vectors[from..to]), 0, 0, 0, 0, 0, 0])?;
     }
+    Ok(())
 }
 
 // The total energy and the black hole mass.
-pub fn ends(radial_factor: &[f64], mass: &[f64]) {
+pub fn ends(rt: &impl Print, radial_factor: &[f64], mass: &[f64]) -> io::Result<()> {
     say(
+        rt,
         b" energy $",
         [bits_of(total_energy(mass)), 0, 0, 0, 0, 0, 0],
-    );
-    formed(black_hole_mass(radial_factor, mass));
+    )?;
+    formed(rt, black_hole_mass(radial_factor, mass))
 }
 
-pub fn formed(hole: BlackHole) {
+pub fn formed(rt: &impl Print, hole: BlackHole) -> io::Result<()> {
     match hole {
-        BlackHole::Formed(m) => say(b" mass $", [bits_of(m), 0, 0, 0, 0, 0, 0]),
-        BlackHole::Absent => {
-            io::write_all(1, b" mass none");
-        }
+        BlackHole::Formed(m) => say(rt, b" mass $", [bits_of(m), 0, 0, 0, 0, 0, 0]),
+        BlackHole::Absent => print!(rt; " mass none"),
     }
 }

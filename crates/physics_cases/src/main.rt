@@ -1,4 +1,6 @@
 // Runs the cases of the crate physics and prints what `oracle physics` prints for them.
+#![tactic(auto)]
+
 mod diagnostics;
 mod forged;
 mod lines;
@@ -6,9 +8,11 @@ mod memories;
 mod refusals;
 mod runs;
 
-fn main() {
-    runs::all();
-    diagnostics::all();
-    diagnostics::short();
-    refusals::all();
+use std::io;
+
+fn main(rt: HostRuntime) -> io::Result<()> {
+    runs::all(&rt)?;
+    diagnostics::all(&rt)?;
+    diagnostics::short(&rt)?;
+    refusals::all(&rt)
 }

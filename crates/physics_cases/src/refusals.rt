@@ -10,6 +10,7 @@ use cases::digest::digest;
 use physics::integration::{Stepped, rk4_step};
 use physics::state::store;
 use physics::state_builder::build_initial_state;
+use std::io;
 use vectors::answer::Answer;
 use vectors::bits::bits_of;
 
@@ -38,28 +39,30 @@ struct Left {
     beyond: u64,
 }
 
-pub fn all() {
+pub fn all(rt: &impl Print) -> io::Result<()> {
     let rows = ROWS;
     for i in 0..36 {
         let at = 4 * i;
-        run(rows[at], rows[at + 1], rows[at + 2], rows[at + 3]);
+        run(rt, rows[at], rows[at + 1], rows[at + 2], rows[at + 3])?;
     }
+    Ok(())
 }
 
 // The memories are lists 7 and 8, those of a store 9 and 7.
-fn run(call: u64, level: u64, of_from: u64, of_to: u64) {
+fn run(rt: &impl Print, call: u64, level: u64, of_from: u64, of_to: u64) -> io::Result<()> {
     let mut from = [0.0; 300];
     let mut to = [0.0; 1400];
     let stores = call / 2 % 2;
     arguments::list(5, 7 + 2 * stores, &mut from);
     arguments::list(5, 8 - stores, &mut to);
     let stepped = make(call, level, of_from, of_to, &from, &mut to);
-    report(call, level, of_from, of_to, stepped, &from, &to);
+    report(rt, call, level, of_from, of_to, stepped, &from, &to)
 }
 
 // Makes a call on as much of the memories as is lent.
 fn make(call: u64, level: u64, of_from: u64, of_to: u64, from: &[f64], to: &mut [f64]) -> Stepped
-    requires { (300 ≤ length from.now) × (1400 ≤ length to.old) }
+    requires from_long { 300 ≤ length from.now }
+    requires to_long { 1400 ≤ length to.old }
 {
     let level = (level % 1000) as u32;
     let of_from = memories::at_most(300, of_from as usize);
@@ -86,6 +89,7 @@ fn stepped(answer: Answer) -> Stepped {
 }
 
 fn report(
+    rt: &impl Print,
     call: u64,
     level: u64,
     of_from: u64,
@@ -93,7 +97,7 @@ fn report(
     stepped: Stepped,
     from: &[f64],
     to: &[f64],
-)
+) -> io::Result<()>
     requires { 1400 ≤ length to.now }
 {
     let left = Left {
@@ -104,15 +108,24 @@ fn report(
         beyond: digest(&to[1320..1400]),
     };
     match stepped {
-        Stepped::To(time) => done(call, level, of_from, of_to, bits_of(time), left),
-        Stepped::RefusedLevel => line(call, level, of_from, of_to, 5, left),
-        Stepped::RefusedLength => line(call, level, of_from, of_to, 11, left),
+        Stepped::To(time) => done(rt, call, level, of_from, of_to, bits_of(time), left),
+        Stepped::RefusedLevel => line(rt, call, level, of_from, of_to, 5, left),
+        Stepped::RefusedLength => line(rt, call, level, of_from, of_to, 11, left),
     }
 }
 
-fn done(call: u64, level: u64, of_from: u64, of_to: u64, time: u64, left: Left) {
+fn done(
+    rt: &impl Print,
+    call: u64,
+    level: u64,
+    of_from: u64,
+    of_to: u64,
+    time: u64,
+    left: Left,
+) -> io::Result<()> {
     match call {
         0 => say(
+            rt,
             b"rk4_step level # lengths # # answer 0 time $ left # made # beyond #\n",
             [
                 level,
@@ -125,25 +138,37 @@ fn done(call: u64, level: u64, of_from: u64, of_to: u64, time: u64, left: Left) 
             ],
         ),
         1 => say(
+            rt,
             b"build_initial_state level # length # answer 0 made # beyond #\n",
             [level, of_to, left.made, left.beyond, 0, 0, 0],
         ),
-        _ => line(call, level, of_from, of_to, 0, left),
+        _ => line(rt, call, level, of_from, of_to, 0, left),
     }
 }
 
 // 01's number of a refusal, 0 where there is none, and that nothing else changed.
-fn line(call: u64, level: u64, of_from: u64, of_to: u64, number: u64, left: Left) {
+fn line(
+    rt: &impl Print,
+    call: u64,
+    level: u64,
+    of_from: u64,
+    of_to: u64,
+    number: u64,
+    left: Left,
+) -> io::Result<()> {
     match call {
         0 => say(
+            rt,
             b"rk4_step level # lengths # # answer # left # #\n",
             [level, of_from, of_to, number, left.read, left.written, 0],
         ),
         1 => say(
+            rt,
             b"build_initial_state level # length # answer # left #\n",
             [level, of_to, number, left.written, 0, 0, 0],
         ),
         _ => say(
+            rt,
             b"store level # lengths # # answer # left # #\n",
             [level, of_from, of_to, number, left.read, left.stored, 0],
         ),

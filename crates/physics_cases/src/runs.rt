@@ -6,6 +6,7 @@ use crate::{forged, lines, memories};
 use physics::integration::{Stepped, rk4_step};
 use physics::state::{has_nan, store};
 use physics::state_builder::build_initial_state;
+use std::io;
 use vectors::bits::{bits_of, of_bits};
 use vectors::constants::BH_SLOWDOWN_FACTOR;
 use vectors::grid::length_at_discretization;
@@ -49,22 +50,24 @@ struct Case {
 }
 
 // Memories for level 13.
-pub fn all() {
+pub fn all(rt: &impl Print) -> io::Result<()> {
     let mut state = [0.0; 65544];
     let mut work = [0.0; 327720];
     for i in 0..235 {
-        lend(case_at(i), &mut state, &mut work);
+        lend(rt, case_at(i), &mut state, &mut work)?;
     }
+    Ok(())
 }
 
 // As much of the memories as the level wants.
-fn lend(case: Case, state: &mut [f64], work: &mut [f64])
-    requires { (65544 ≤ length state.old) × (327720 ≤ length work.old) }
+fn lend(rt: &impl Print, case: Case, state: &mut [f64], work: &mut [f64]) -> io::Result<()>
+    requires state_long { 65544 ≤ length state.old }
+    requires work_long { 327720 ≤ length work.old }
 {
     let n = memories::at_most(8193, length_at_discretization(case.level));
     let of_state = 8 * n;
     let of_work = 40 * n;
-    run(case, &mut state[0..of_state], &mut work[0..of_work]);
+    run(rt, case, &mut state[0..of_state], &mut work[0..of_work])
 }
 
 // Levels 5 to 9 with each amplitude at both speeds, and 10 to 13 with four amplitudes; levels 5 to 7 with three seeds and
@@ -87,7 +90,9 @@ fn case_at(i: usize) -> Case
 
 // From the initial state with the amplitude at a place of the table.
 fn initial(kind: usize, level: usize, at: usize, last: u32) -> Case
-    requires { (kind < 2) × (level < 17) × (at < 17) }
+    requires kind_in { kind < 2 }
+    requires level_in { level < 17 }
+    requires at_in { at < 17 }
 {
     Case {
         kind: kind,
@@ -103,7 +108,8 @@ fn initial(kind: usize, level: usize, at: usize, last: u32) -> Case
 
 // From a forged state, at the time and by the step at a place of the tables.
 fn forged(kind: usize, level: usize, seed: usize, replaced: usize, at: usize) -> Case
-    requires { (level < 17) × (at < 9) }
+    requires level_in { level < 17 }
+    requires at_in { at < 9 }
 {
     Case {
         kind: kind,
@@ -117,19 +123,20 @@ fn forged(kind: usize, level: usize, seed: usize, replaced: usize, at: usize) ->
     }
 }
 
-fn run(case: Case, state: &mut [f64], work: &mut [f64]) {
+fn run(rt: &impl Print, case: Case, state: &mut [f64], work: &mut [f64]) -> io::Result<()> {
     let from = memories::first(case.level, work.len());
     let to = from + from;
     let delta = delta(case);
     let mut time = case.time;
     let mut steps = 0;
-    let mut last = begin(case, from, to, work);
+    let mut last = begin(rt, case, from, to, work)?;
     while steps < last {
         store(case.level, &work[from..to], state);
         time = time_after(rk4_step(case.level, time, delta, state, work));
         steps += 1;
-        last = until(last, arrive(case, steps, time, &work[from..to]));
+        last = until(last, arrive(rt, case, steps, time, &work[from..to])?);
     }
+    Ok(())
 }
 
 fn delta(case: Case) -> f64 {
@@ -137,15 +144,17 @@ fn delta(case: Case) -> f64 {
 }
 
 // The number of the run's last step, from the state that this leaves in work memory.
-fn begin(case: Case, from: usize, to: usize, work: &mut [f64]) -> u32
-    requires { (from ≤ to) × (to ≤ length work.old) }
+fn begin(rt: &impl Print, case: Case, from: usize, to: usize, work: &mut [f64]) -> io::Result<u32>
+    requires ordered { from ≤ to }
+    requires within { to ≤ length work.old }
 {
     if case.kind < 2 {
         build_initial_state(case.level, case.amplitude, work);
-        return until(case.last, arrive(case, 0, 0.0, &work[from..to]));
+        let ended = arrive(rt, case, 0, 0.0, &work[from..to])?;
+        return Ok(until(case.last, ended));
     }
     forged::forge(case.seed, case.replaced, &mut work[from..to]);
-    case.last
+    Ok(case.last)
 }
 
 fn time_after(stepped: Stepped) -> f64 {
@@ -166,13 +175,13 @@ fn until(last: u32, ended: bool) -> u32
 }
 
 // Prints a state where one is due; whether it ends the run.
-fn arrive(case: Case, steps: u32, time: f64, vectors: &[f64]) -> bool {
+fn arrive(rt: &impl Print, case: Case, steps: u32, time: f64, vectors: &[f64]) -> io::Result<bool> {
     let broken = has_nan(time, vectors);
     if is_printed(steps, broken) {
-        heading(case, steps);
-        lines::state(time, broken, vectors);
+        heading(rt, case, steps)?;
+        lines::state(rt, time, broken, vectors)?;
     }
-    broken
+    Ok(broken)
 }
 
 fn is_printed(steps: u32, broken: bool) -> bool {
@@ -182,24 +191,28 @@ fn is_printed(steps: u32, broken: bool) -> bool {
     }
 }
 
-fn heading(case: Case, steps: u32) {
+fn heading(rt: &impl Print, case: Case, steps: u32) -> io::Result<()> {
     let kind = case.kind;
     let level = case.level as u64;
     let amplitude = bits_of(case.amplitude);
     match kind {
         0 => lines::say(
+            rt,
             b"run level # amplitude $ base steps #",
             [level, amplitude, steps as u64, 0, 0, 0, 0],
         ),
         1 => lines::say(
+            rt,
             b"run level # amplitude $ slowed steps #",
             [level, amplitude, steps as u64, 0, 0, 0, 0],
         ),
         2 => lines::say(
+            rt,
             b"forged level # seed # replaced #",
             [level, case.seed, case.replaced as u64, 0, 0, 0, 0],
         ),
         _ => lines::say(
+            rt,
             b"forged level # time $ factor $",
             [level, bits_of(case.time), bits_of(case.factor), 0, 0, 0, 0],
         ),

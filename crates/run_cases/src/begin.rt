@@ -4,6 +4,7 @@ use crate::jobs::Job;
 use crate::lines::{bits, lent, number};
 use crate::memories::Lent;
 use crate::session::{REFUSED, Told};
+use std::io;
 use vectors::bits::bits_of;
 
 // What of a begin its line names.
@@ -126,39 +127,39 @@ fn length(row: usize, column: usize) -> u64 {
     table[row % 10 * 3 + column % 3]
 }
 
-pub fn line(job: Job, t: Told) {
-    head(job);
-    answer(t);
+pub fn line(rt: &impl Print, job: Job, t: Told) -> io::Result<()> {
+    head(rt, job)?;
+    answer(rt, t)
 }
 
-fn head(job: Job) {
+fn head(rt: &impl Print, job: Job) -> io::Result<()> {
     let s = job.settings;
-    io::write_all(1, b"begin");
+    print!(rt; "begin")?;
     match cell(job.row, 7) {
-        LEVEL => number(b" level ", s.level as u64),
+        LEVEL => number(rt, " level ", s.level as u64),
         BOTH => {
-            number(b" level ", s.level as u64);
-            bits(b" interval ", bits_of(s.interval));
+            number(rt, " level ", s.level as u64)?;
+            bits(rt, " interval ", bits_of(s.interval))
         }
-        INTERVAL => bits(b" interval ", bits_of(s.interval)),
-        DX_LEVEL => number(b" dx ", s.dx_level as u64),
+        INTERVAL => bits(rt, " interval ", bits_of(s.interval)),
+        DX_LEVEL => number(rt, " dx ", s.dx_level as u64),
         LENGTHS => {
-            lent(job.lent);
-            number(b" skip ", s.skip as u64);
+            lent(rt, job.lent)?;
+            number(rt, " skip ", s.skip as u64)
         }
         AMPLITUDE => {
-            number(b" level ", s.level as u64);
-            bits(b" amplitude ", bits_of(s.amplitude));
-            number(b" skip ", s.skip as u64);
+            number(rt, " level ", s.level as u64)?;
+            bits(rt, " amplitude ", bits_of(s.amplitude))?;
+            number(rt, " skip ", s.skip as u64)
         }
-        _ => number(b" order ", (job.n % 7) as u64),
+        _ => number(rt, " order ", (job.n % 7) as u64),
     }
 }
 
-fn answer(t: Told) {
+fn answer(rt: &impl Print, t: Told) -> io::Result<()> {
     if t.word == REFUSED {
-        number(b" refused ", t.number);
+        number(rt, " refused ", t.number)
     } else {
-        number(b" accepted ", t.count as u64);
+        number(rt, " accepted ", t.count as u64)
     }
 }

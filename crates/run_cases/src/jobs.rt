@@ -7,7 +7,6 @@ use crate::memories::{Lent, lent_to};
 use crate::session::Session;
 use crate::settings::{Case, case_of, low};
 use run::settings::{Record, Settings};
-use std::num::wrapping_add_u32;
 
 // 58 cases by six lists of budgets, 23 whole runs, 9 runs of single calls, 91 begins, 38 forged calls.
 pub const JOBS: usize = 509;
@@ -131,7 +130,7 @@ fn attempts_of(kind: u32, attempts: u32) -> u32 {
 
 fn turns_of(kind: u32, attempts: u32) -> u32 {
     if kind == ONES {
-        return wrapping_add_u32(attempts, 1);
+        return attempts.wrapping_add(1);
     }
     low(rule(kind, 0))
 }

@@ -5,41 +5,47 @@ use crate::jobs::{BEGIN, CALLS, Job, STATE, WHOLE};
 use crate::memories::{Lent, least, state_size, work_size};
 use crate::session::{COLLAPSE, FULL, REFUSED, Session, Told, folded};
 use cases::digest::{digest, with};
+use std::io;
 use vectors::bits::bits_of;
 
 // The word and n.
-pub fn number(word: &[u8], n: u64) {
-    io::write_all(1, word);
-    io::print_decimal(1, n);
+pub fn number(rt: &impl Print, word: &str, n: u64) -> io::Result<()> {
+    print!(rt; "{word}{n}")
 }
 
-fn pair(word: &[u8], m: u64, n: u64) {
-    number(word, m);
-    number(b" ", n);
+fn pair(rt: &impl Print, word: &str, m: u64, n: u64) -> io::Result<()> {
+    number(rt, word, m)?;
+    number(rt, " ", n)
 }
 
 // The word and 16 digits.
-pub fn bits(word: &[u8], b: u64) {
-    io::write_all(1, word);
-    io::print_hex(1, b, 16);
+pub fn bits(rt: &impl Print, word: &str, b: u64) -> io::Result<()> {
+    print!(rt; "{word}{b:016x}")
 }
 
-pub fn lent(l: Lent) {
-    pair(b" lent ", l.state, l.work);
-    number(b" ", l.frames);
+pub fn lent(rt: &impl Print, l: Lent) -> io::Result<()> {
+    pair(rt, " lent ", l.state, l.work)?;
+    number(rt, " ", l.frames)
 }
 
 // The line of each single call, and of any other job after its last call.
-pub fn report(job: Job, z: Session, calls: u64, state: &[f64], work: &[f64], frames: &[f64]) {
+pub fn report(
+    rt: &impl Print,
+    job: Job,
+    z: Session,
+    calls: u64,
+    state: &[f64],
+    work: &[f64],
+    frames: &[f64],
+) -> io::Result<()> {
     if is_silent(job, z) {
-        return;
+        return Ok(());
     }
     if job.kind < CALLS {
-        run_line(job, z, calls, state_digest(z.told, state));
-        return;
+        return run_line(rt, job, z, calls, state_digest(z.told, state));
     }
-    call_line(job, z);
-    memories(kept_from(z.told), state, work, frames);
+    call_line(rt, job, z)?;
+    memories(rt, kept_from(z.told), state, work, frames)
 }
 
 fn is_silent(job: Job, z: Session) -> bool {
@@ -57,140 +63,133 @@ fn state_digest(t: Told, state: &[f64]) -> u64 {
     folded(with(1, record.time), &state[0..end])
 }
 
-fn run_line(job: Job, z: Session, calls: u64, digest: u64) {
-    number(b"case ", job.row as u64);
+fn run_line(rt: &impl Print, job: Job, z: Session, calls: u64, digest: u64) -> io::Result<()> {
+    number(rt, "case ", job.row as u64)?;
     if job.kind == WHOLE {
-        whole(z.told);
+        whole(rt, z.told)?;
     } else {
-        list(job.kind, calls, z, digest);
+        list(rt, job.kind, calls, z, digest)?;
     }
-    pair(b" frames ", z.frames, z.digest);
-    io::write_all(1, b"\n");
+    pair(rt, " frames ", z.frames, z.digest)?;
+    println!(rt)
 }
 
 // Steps, time and mass.
-fn whole(t: Told) {
+fn whole(rt: &impl Print, t: Told) -> io::Result<()> {
     let record = t.record;
-    number(b" whole ", record.steps as u64);
-    bits(b" ", bits_of(record.time));
-    mass(t);
+    number(rt, " whole ", record.steps as u64)?;
+    bits(rt, " ", bits_of(record.time))?;
+    mass(rt, t)
 }
 
 // The calls; outcome, steps, time and mass; the digest of the state.
-fn list(kind: u32, calls: u64, z: Session, digest: u64) {
+fn list(rt: &impl Print, kind: u32, calls: u64, z: Session, digest: u64) -> io::Result<()> {
     let t = z.told;
     let record = t.record;
-    number(b" list ", kind as u64);
-    number(b" calls ", calls);
-    number(b" full ", z.full);
-    number(b" refused ", z.refused);
-    word(t.word);
-    number(b" ", record.steps as u64);
-    bits(b" ", bits_of(record.time));
-    mass(t);
-    number(b" state ", digest);
+    number(rt, " list ", kind as u64)?;
+    number(rt, " calls ", calls)?;
+    number(rt, " full ", z.full)?;
+    number(rt, " refused ", z.refused)?;
+    word(rt, t.word)?;
+    number(rt, " ", record.steps as u64)?;
+    bits(rt, " ", bits_of(record.time))?;
+    mass(rt, t)?;
+    number(rt, " state ", digest)
 }
 
-fn call_line(job: Job, z: Session) {
+fn call_line(rt: &impl Print, job: Job, z: Session) -> io::Result<()> {
     let kind = job.kind;
     match kind {
-        CALLS => single_line(job.row, z),
-        BEGIN => begin::line(job, z.told),
-        _ => forged_line(job, z.told),
+        CALLS => single_line(rt, job.row, z),
+        BEGIN => begin::line(rt, job, z.told),
+        _ => forged_line(rt, job, z.told),
     }
 }
 
-fn single_line(row: usize, z: Session) {
-    number(b"case ", row as u64);
+fn single_line(rt: &impl Print, row: usize, z: Session) -> io::Result<()> {
+    number(rt, "case ", row as u64)?;
     if z.turn == 1 {
-        number(b" begin ", z.frames);
+        number(rt, " begin ", z.frames)
     } else {
-        advance(z.budget, z.lent, z.told);
+        advance(rt, z.budget, z.lent, z.told)
     }
 }
 
-fn advance(budget: u32, l: Lent, t: Told) {
-    number(b" advance ", budget as u64);
-    lent(l);
-    answer(t);
+fn advance(rt: &impl Print, budget: u32, l: Lent, t: Told) -> io::Result<()> {
+    number(rt, " advance ", budget as u64)?;
+    lent(rt, l)?;
+    answer(rt, t)
 }
 
-fn forged_line(job: Job, t: Told) {
-    forged(job.kind, cell(job.n, 0), cell(job.n, 1), cell(job.n, 2));
-    answer(t);
+fn forged_line(rt: &impl Print, job: Job, t: Told) -> io::Result<()> {
+    forged(rt, job.kind, cell(job.n, 0), cell(job.n, 1), cell(job.n, 2))?;
+    answer(rt, t)
 }
 
-fn forged(kind: u32, first: u64, second: u64, third: u64) {
+fn forged(rt: &impl Print, kind: u32, first: u64, second: u64, third: u64) -> io::Result<()> {
     if kind == STATE {
-        pair(b"forged state ", first, second);
-        bits(b" ", third);
+        pair(rt, "forged state ", first, second)?;
+        bits(rt, " ", third)
     } else {
-        pair(b"forged record ", first, second);
-        number(b" advance ", third);
+        pair(rt, "forged record ", first, second)?;
+        number(rt, " advance ", third)
     }
 }
 
-fn word(w: u32) {
+fn word(rt: &impl Print, w: u32) -> io::Result<()> {
     match w {
-        0 => {
-            io::write_all(1, b" refused");
-        }
-        1 => {
-            io::write_all(1, b" full");
-        }
-        2 => {
-            io::write_all(1, b" collapse");
-        }
-        3 => {
-            io::write_all(1, b" broken");
-        }
-        4 => {
-            io::write_all(1, b" timeout");
-        }
-        _ => {
-            io::write_all(1, b" spent");
-        }
+        0 => print!(rt; " refused"),
+        1 => print!(rt; " full"),
+        2 => print!(rt; " collapse"),
+        3 => print!(rt; " broken"),
+        4 => print!(rt; " timeout"),
+        _ => print!(rt; " spent"),
     }
 }
 
-fn mass(t: Told) {
+fn mass(rt: &impl Print, t: Told) -> io::Result<()> {
     if t.word == COLLAPSE {
-        bits(b" ", t.number);
-        return;
+        return bits(rt, " ", t.number);
     }
-    io::write_all(1, b" none");
+    print!(rt; " none")
 }
 
 // The answer, and the record after the call.
-fn answer(t: Told) {
+fn answer(rt: &impl Print, t: Told) -> io::Result<()> {
     let record = t.record;
-    word(t.word);
-    numbers(t);
-    number(b" record ", record.steps as u64);
-    bits(b" ", bits_of(record.time));
-    number(b" ", record.broken as u64);
+    word(rt, t.word)?;
+    numbers(rt, t)?;
+    number(rt, " record ", record.steps as u64)?;
+    bits(rt, " ", bits_of(record.time))?;
+    number(rt, " ", record.broken as u64)
 }
 
 // A refusal's number; full with attempts and frames; or the outcome with mass and frames.
-fn numbers(t: Told) {
+fn numbers(rt: &impl Print, t: Told) -> io::Result<()> {
     let word = t.word;
     match word {
-        REFUSED => number(b" ", t.number),
-        FULL => pair(b" ", t.number, t.count as u64),
+        REFUSED => number(rt, " ", t.number),
+        FULL => pair(rt, " ", t.number, t.count as u64),
         _ => {
-            mass(t);
-            number(b" ", t.count as u64);
+            mass(rt, t)?;
+            number(rt, " ", t.count as u64)
         }
     }
 }
 
 // Digests of state memory, of frame memory and of what stays in work memory from a number on.
-fn memories(from: u64, state: &[f64], work: &[f64], frames: &[f64]) {
+fn memories(
+    rt: &impl Print,
+    from: u64,
+    state: &[f64],
+    work: &[f64],
+    frames: &[f64],
+) -> io::Result<()> {
     let end = work.len();
     let start = least(from, end);
-    pair(b" memories ", digest(state), digest(frames));
-    number(b" ", digest(&work[start..end]));
-    io::write_all(1, b"\n");
+    pair(rt, " memories ", digest(state), digest(frames))?;
+    number(rt, " ", digest(&work[start..end]))?;
+    println!(rt)
 }
 
 // The call used so much of work memory; all of it stays if the call used none.

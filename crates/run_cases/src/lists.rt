@@ -4,7 +4,6 @@ use crate::memories::Lent;
 use crate::session::Session;
 use crate::settings::{draw, low};
 use cases::arguments::after;
-use std::num::{wrapping_add_u32, wrapping_sub_u32, wrapping_sub_u64};
 
 // Calls that are refused unless the run has ended: the budget, and what state and work memory have too little.
 #[rattlefmt::skip]
@@ -26,7 +25,7 @@ pub fn cut_call(job: Job, z: Session) -> Call {
     }
     let budget = cut(job, z);
     let mut c = call_with(z, budget, job.lent);
-    c.left = wrapping_sub_u32(z.left, budget);
+    c.left = z.left.wrapping_sub(budget);
     c.seed = after(z.seed);
     c
 }
@@ -41,8 +40,8 @@ fn refusal_of(kind: u32, turn: u32) -> usize {
 
 fn refused_call(z: Session, which: usize, l: Lent) -> Call {
     let shorter = Lent {
-        state: wrapping_sub_u64(l.state, refused(which, 1)),
-        work: wrapping_sub_u64(l.work, refused(which, 2)),
+        state: l.state.wrapping_sub(refused(which, 1)),
+        work: l.work.wrapping_sub(refused(which, 2)),
         frames: l.frames,
     };
     call_with(z, low(refused(which, 0)), shorter)
@@ -58,7 +57,7 @@ fn cut(job: Job, z: Session) -> u32 {
     if job.kind == ONES {
         return 1;
     }
-    if wrapping_add_u32(z.turn, 1) == job.turns {
+    if z.turn.wrapping_add(1) == job.turns {
         return z.left;
     }
     let drawn = draw(z.seed) % (job.attempts / 3 + 2);

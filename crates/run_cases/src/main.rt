@@ -1,4 +1,6 @@
 // Runs the cases of the crate run and prints what `oracle run` prints for them.
+#![tactic(auto)]
+
 mod begin;
 mod calls;
 mod floats;
@@ -10,11 +12,14 @@ mod memories;
 mod session;
 mod settings;
 
-fn main() {
+use std::io;
+
+fn main(rt: HostRuntime) -> io::Result<()> {
     let mut state = [0.0; 2064];
     let mut work = [0.0; 10288];
     let mut frames = [0.0; 8192];
     for i in 0..jobs::JOBS {
-        session::carry_out(jobs::job_of(i), &mut state, &mut work, &mut frames);
+        session::carry_out(&rt, jobs::job_of(i), &mut state, &mut work, &mut frames)?;
     }
+    Ok(())
 }

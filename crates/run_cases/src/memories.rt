@@ -3,7 +3,6 @@ ghost use Rattle.std.specs.Prelude.{◌≤◌};
 
 use cases::arguments::list;
 use run::settings::Settings;
-use std::num::{wrapping_add_u64, wrapping_sub_u64};
 
 // The numbers of a state of levels 5 to 8, then the numbers of work memory that a call may use.
 const SIZES: [u64; 8] = [264, 520, 1032, 2056, 1320, 2600, 5160, 10280];
@@ -50,7 +49,7 @@ pub fn lent_to(s: Settings, state: u64, work: u64, count: u64, frames: u64) -> L
 }
 
 fn moved(size: u64, more: u64) -> u64 {
-    wrapping_sub_u64(wrapping_add_u64(size, more), 1)
+    size.wrapping_add(more).wrapping_sub(1)
 }
 
 pub fn least(x: u64, most: usize) -> usize

@@ -7,7 +7,7 @@ use crate::memories::{Lent, frames_of, least, put, refill};
 use cases::digest::{mixed, with};
 use run::settings::{Record, Settings};
 use run::simulate::{Answer, Begun};
-use std::num::{wrapping_add_u32, wrapping_add_u64, wrapping_add_usize, wrapping_sub_u32};
+use std::io;
 use vectors::bits::bits_of;
 
 // No job makes so many calls.
@@ -52,17 +52,24 @@ pub struct Session {
     pub seed: u64,
 }
 
-pub fn carry_out(job: Job, state: &mut [f64], work: &mut [f64], frames: &mut [f64]) {
+pub fn carry_out(
+    rt: &impl Print,
+    job: Job,
+    state: &mut [f64],
+    work: &mut [f64],
+    frames: &mut [f64],
+) -> io::Result<()> {
     refill(job.filled, 7, state);
     refill(job.filled, 8, frames);
     let mut z = fresh(job);
     let mut calls = 0;
     let mut end = MOST;
     while calls < end {
-        z = step(job, z, calls, state, work, frames);
+        z = step(rt, job, z, calls, state, work, frames)?;
         end = end_of(job.turns, z.turn);
         calls += 1;
     }
+    Ok(())
 }
 
 // The calls of a job: as many as can be until its turns are over.
@@ -109,18 +116,19 @@ fn seed_of(kind: u32, k: u64) -> u64 {
 }
 
 fn step(
+    rt: &impl Print,
     job: Job,
     z: Session,
     calls: u64,
     state: &mut [f64],
     work: &mut [f64],
     frames: &mut [f64],
-) -> Session {
+) -> io::Result<Session> {
     let c = call_of(job, z);
     let t = made(job.filled, z.turn, c, state, work, frames);
     let next = after_call(job.kind, z, c, t, joined(z.digest, t, frames));
-    report(job, next, calls, state, work, frames);
-    next
+    report(rt, job, next, calls, state, work, frames)?;
+    Ok(next)
 }
 
 // A call after what is to stand in the memories before it.
@@ -205,10 +213,10 @@ fn after_call(kind: u32, z: Session, c: Call, t: Told, digest: u64) -> Session {
         told: t,
         budget: c.budget,
         lent: lent,
-        frames: wrapping_add_u64(z.frames, t.count as u64),
+        frames: z.frames.wrapping_add(t.count as u64),
         digest: digest,
-        full: wrapping_add_u64(z.full, is(t.word, FULL)),
-        refused: wrapping_add_u64(z.refused, is(t.word, REFUSED)),
+        full: z.full.wrapping_add(is(t.word, FULL)),
+        refused: z.refused.wrapping_add(is(t.word, REFUSED)),
         turn: turn_after(z.turn, rest),
         rest: rest,
         left: c.left,
@@ -222,7 +230,7 @@ fn rest_of(kind: u32, budget: u32, t: Told) -> u32 {
         return 0;
     }
     if t.word == FULL {
-        return wrapping_sub_u32(budget, crate::settings::low(t.number));
+        return budget.wrapping_sub(crate::settings::low(t.number));
     }
     0
 }
@@ -231,7 +239,7 @@ fn turn_after(turn: u32, rest: u32) -> u32 {
     if 0 < rest {
         return turn;
     }
-    wrapping_add_u32(turn, 1)
+    turn.wrapping_add(1)
 }
 
 fn is(word: u32, other: u32) -> u64 {
@@ -251,9 +259,9 @@ fn joined(d: u64, t: Told, frames: &[f64]) -> u64 {
 }
 
 fn product(count: usize, size: usize) -> usize {
-    let mut all = 0;
+    let mut all = 0usize;
     for i in 0..count {
-        all = wrapping_add_usize(all, size);
+        all = all.wrapping_add(size);
     }
     all
 }

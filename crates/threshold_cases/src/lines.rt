@@ -1,44 +1,44 @@
 // The line of a case.
+use std::io;
 use threshold::{Bracket, Searched, Why};
 
 // The case's number, a digest of what is asked, the answer, and how many numbers changed that must not.
-pub fn line(k: usize, asked: u64, answer: Searched, beyond: u64) {
-    number(b"case ", k as u64);
-    number(b" asked ", asked);
+pub fn line(
+    rt: &impl Print,
+    k: usize,
+    asked: u64,
+    answer: Searched,
+    beyond: u64,
+) -> io::Result<()> {
+    number(rt, "case ", k as u64)?;
+    number(rt, " asked ", asked)?;
     match answer {
-        Searched::Refused(n) => number(b" refused ", n as u64),
-        Searched::Found(b) => bracket(b),
+        Searched::Refused(n) => number(rt, " refused ", n as u64)?,
+        Searched::Found(b) => bracket(rt, b)?,
     }
-    number(b" beyond ", beyond);
-    io::write_all(1, b"\n");
+    number(rt, " beyond ", beyond)?;
+    println!(rt)
 }
 
 // The word and n.
-fn number(word: &[u8], n: u64) {
-    io::write_all(1, word);
-    io::print_decimal(1, n);
+fn number(rt: &impl Print, word: &str, n: u64) -> io::Result<()> {
+    print!(rt; "{word}{n}")
 }
 
-fn bracket(b: Bracket) {
-    number(b" low ", b.low);
-    number(b" high ", b.high);
-    number(b" made ", b.made as u64);
-    io::write_all(1, b" why");
+fn bracket(rt: &impl Print, b: Bracket) -> io::Result<()> {
+    number(rt, " low ", b.low)?;
+    number(rt, " high ", b.high)?;
+    number(rt, " made ", b.made as u64)?;
+    print!(rt; " why")?;
     let why = b.why;
-    reason(why);
+    reason(rt, why)
 }
 
-fn reason(why: Why) {
+fn reason(rt: &impl Print, why: Why) -> io::Result<()> {
     match why {
-        Why::Used => {
-            io::write_all(1, b" used");
-        }
-        Why::Adjacent => {
-            io::write_all(1, b" adjacent");
-        }
-        Why::Neither => {
-            io::write_all(1, b" neither");
-        }
-        Why::Refused(n) => number(b" refused ", n as u64),
+        Why::Used => print!(rt; " used"),
+        Why::Adjacent => print!(rt; " adjacent"),
+        Why::Neither => print!(rt; " neither"),
+        Why::Refused(n) => number(rt, " refused ", n as u64),
     }
 }

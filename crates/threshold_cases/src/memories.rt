@@ -38,5 +38,5 @@ fn counted(count: u64, x: f64) -> u64 {
     if x == FILLER {
         return count;
     }
-    std::num::wrapping_add_u64(count, 1)
+    count.wrapping_add(1)
 }

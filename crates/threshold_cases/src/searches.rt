@@ -5,6 +5,7 @@ use crate::table::{ALONE, ROWS};
 use crate::{drawn, table};
 use cases::digest::mixed;
 use run::settings::Settings;
+use std::io;
 use threshold::{Searched, search, search_in};
 use vectors::bits::of_bits;
 
@@ -24,19 +25,14 @@ struct Asked {
     alone: bool,
 }
 
-pub fn carry_out(k: usize, state: &mut [f64], work: &mut [f64]) {
+pub fn carry_out(rt: &impl Print, k: usize, state: &mut [f64], work: &mut [f64]) -> io::Result<()> {
     fill(state);
     fill(work);
     let answer = on_parts(k, state, work);
     let level = cell(k, 2);
     let in_state = changed(used(answer, level, 0), state);
     let in_work = changed(used(answer, level, 3), work);
-    line(
-        k,
-        digest(k),
-        answer,
-        std::num::wrapping_add_u64(in_state, in_work),
-    );
+    line(rt, k, digest(k), answer, in_state.wrapping_add(in_work))
 }
 
 // Of the row's words.

@@ -1,4 +1,6 @@
 // Functions of the crate vectors for C or Rust to link. A slice is a pointer, then a length.
+#![tactic(auto)]
+
 ghost use Rattle.std.specs.Prelude.{◌≡◌, map, length};
 ghost use Rattle.vectors.specs.Answer.{number_of, left_at};
 ghost use Rattle.vectors.specs.Exp.{exp_of};

@@ -2,6 +2,7 @@
 use crate::text;
 use cases::arguments;
 use cases::digest::with;
+use std::io;
 use vectors::bits::{bits_of, of_bits};
 
 const EXP: u32 = 0;
@@ -60,37 +61,40 @@ const TIES: [u64; 40] = [
 // A tie, and the floats next to it.
 const BESIDE: [u64; 3] = [0, 0xFFFFFFFFFFFFFFFF, 1];
 
-pub fn rows() {
+pub fn rows(rt: &impl Print) -> io::Result<()> {
     let table = ROWS;
     for i in 0..15 {
-        items(i as u64, table[i]);
+        items(rt, i as u64, table[i])?;
     }
+    Ok(())
 }
 
-fn items(i: u64, row: u32) {
+fn items(rt: &impl Print, i: u64, row: u32) -> io::Result<()> {
     let count = row % 1000;
     let range = row / 1000 % 10;
     for k in 0..count {
         let argument = argument_at(range, k as u64);
-        item(i, argument, answer_at(row / 10000, range, argument));
+        item(rt, i, argument, answer_at(row / 10000, range, argument))?;
     }
+    Ok(())
 }
 
-fn item(i: u64, argument: u64, answer: u64) {
+fn item(rt: &impl Print, i: u64, argument: u64, answer: u64) -> io::Result<()> {
     text::print(
+        rt,
         b"exp special $ $\n|exp patterns # #\n|tan special $ $\n|tan patterns # #\n\
         |square special $ $\n|square patterns # #\n|fourth special $ $\n|fourth patterns # #\n\
         |reciprocal special $ $\n|reciprocal patterns # #\n|exp whole range # #\n|exp near zero # #\n\
         |tan quarter # #\n|tan beyond # #\n|exp tie $ $\n",
         i,
         &[argument, answer],
-    );
+    )
 }
 
 // The bits of an argument, or the seed of a chunk.
 fn argument_at(range: u32, k: u64) -> u64 {
     if range < SPECIALS {
-        return std::num::wrapping_add_u64(k, 1);
+        return k.wrapping_add(1);
     }
     if range == SPECIALS {
         let special = SPECIAL;
@@ -98,7 +102,7 @@ fn argument_at(range: u32, k: u64) -> u64 {
     }
     let ties = TIES;
     let beside = BESIDE;
-    std::num::wrapping_add_u64(ties[(k / 3 % 40) as usize], beside[(k % 3) as usize])
+    ties[(k / 3 % 40) as usize].wrapping_add(beside[(k % 3) as usize])
 }
 
 // The bits of the answer, or the digest of the answers.

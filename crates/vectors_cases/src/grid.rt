@@ -1,6 +1,7 @@
 // The constants, the grid, tan along the grid, and what stands outside it.
 use crate::{functions, text};
 use cases::digest::with;
+use std::io;
 use vectors::bits::bits_of;
 use vectors::constants::{
     BH_RADIAL_FACTOR_THRESHOLD, BH_RADIAL_FACTOR_TRACKING, BH_SLOWDOWN_FACTOR, COURANT_NUMBER,
@@ -18,27 +19,30 @@ const CONSTANTS: [f64; 7] = [
     INITIAL_WAVE_STEEPNESS,
 ];
 
-pub fn constants() {
+pub fn constants(rt: &impl Print) -> io::Result<()> {
     let table = CONSTANTS;
     for i in 0..7 {
-        constant(i as u64, table[i]);
+        constant(rt, i as u64, table[i])?;
     }
+    Ok(())
 }
 
-fn constant(name: u64, value: f64) {
+fn constant(rt: &impl Print, name: u64, value: f64) -> io::Result<()> {
     text::print(
+        rt,
         b"constant BH_RADIAL_FACTOR_TRACKING $\n|constant BH_RADIAL_FACTOR_THRESHOLD $\n\
         |constant COURANT_NUMBER $\n|constant BH_SLOWDOWN_FACTOR $\n|constant EPS $\n\
         |constant DISSIPATION_FACTOR $\n|constant INITIAL_WAVE_STEEPNESS $\n",
         name,
         &[bits_of(value)],
-    );
+    )
 }
 
-pub fn levels() {
+pub fn levels(rt: &impl Print) -> io::Result<()> {
     for k in 0..48 {
-        line(k % 4, 5 + k / 4);
+        line(rt, k % 4, 5 + k / 4)?;
     }
+    Ok(())
 }
 
 // A line's number and three digits for its level: what stands outside the grid, then the point after the last.
@@ -48,21 +52,23 @@ const OUTSIDE: [u32; 11] = [
     7_005, 7_016,
 ];
 
-pub fn outside() {
+pub fn outside(rt: &impl Print) -> io::Result<()> {
     let table = OUTSIDE;
     for i in 0..11 {
         let row = table[i];
-        line(row / 1000, row % 1000);
+        line(rt, row / 1000, row % 1000)?;
     }
+    Ok(())
 }
 
-fn line(what: u32, level: u32) {
+fn line(rt: &impl Print, what: u32, level: u32) -> io::Result<()> {
     text::print(
+        rt,
         b"grid level # length #\n|grid level # delta $\n|grid level # points #\n|grid level # tangents #\n\
         |outside level # length #\n|outside level # delta $\n|outside level # point $\n|beyond level # point $\n",
         what as u64,
         &[level as u64, number(what, level)],
-    );
+    )
 }
 
 // The number that a line prints.

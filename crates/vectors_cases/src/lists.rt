@@ -2,6 +2,7 @@
 use crate::memories::least;
 use crate::text;
 use cases::arguments;
+use std::io;
 use vectors::bits::{bits_of, of_bits};
 use vectors::field_vector::Position;
 
@@ -36,19 +37,21 @@ const SHORTS: [u64; 24] = [
 
 const LENGTHS: [usize; 8] = [2, 2, 1, 2, 2, 2, 3, 3];
 
-pub fn shorts() {
+pub fn shorts(rt: &impl Print) -> io::Result<()> {
     let table = LENGTHS;
     for i in 0..8 {
-        print(find_short(i, table[i]));
+        print(rt, find_short(i, table[i]))?;
     }
+    Ok(())
 }
 
-fn print(found: Found) {
+fn print(rt: &impl Print, found: Found) -> io::Result<()> {
     text::print(
+        rt,
         b"short min $\nshort threshold ?\n",
         0,
         &[found.minimum, found.index],
-    );
+    )
 }
 
 fn find_short(i: usize, length: usize) -> Found {

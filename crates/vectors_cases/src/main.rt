@@ -1,4 +1,6 @@
 // Runs the cases of the crate vectors and prints what `oracle vectors` prints for them.
+#![tactic(auto)]
+
 mod functions;
 mod grid;
 mod lists;
@@ -7,13 +9,15 @@ mod on_vector;
 mod refusals;
 mod text;
 
-fn main() {
-    grid::constants();
-    grid::levels();
-    functions::rows();
-    on_vector::mapped();
-    on_vector::lines();
-    lists::shorts();
-    refusals::cases();
-    grid::outside();
+use std::io;
+
+fn main(rt: HostRuntime) -> io::Result<()> {
+    grid::constants(&rt)?;
+    grid::levels(&rt)?;
+    functions::rows(&rt)?;
+    on_vector::mapped(&rt)?;
+    on_vector::lines(&rt)?;
+    lists::shorts(&rt)?;
+    refusals::cases(&rt)?;
+    grid::outside(&rt)
 }

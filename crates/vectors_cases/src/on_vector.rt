@@ -1,18 +1,20 @@
 // exp mapped over lists, then every line of every vector: eleven kinds at levels 5 to 8, and at level 5 an infinity at each point.
 use crate::memories::{Case, EXP_ALL, Left};
 use crate::{lists, memories, text};
+use std::io;
 
 const LENGTHS: [usize; 6] = [0, 1, 2, 33, 129, 257];
 
 // `exp_all` on lists of several lengths.
-pub fn mapped() {
+pub fn mapped(rt: &impl Print) -> io::Result<()> {
     let table = LENGTHS;
     for i in 0..6 {
-        map(table[i]);
+        map(rt, table[i])?;
     }
+    Ok(())
 }
 
-fn map(length: usize) {
+fn map(rt: &impl Print, length: usize) -> io::Result<()> {
     let left = memories::run(Case {
         operation: EXP_ALL,
         level: 5,
@@ -22,7 +24,7 @@ fn map(length: usize) {
         half: 0,
         room: 0,
     });
-    text::print(b"exp all # #\n", 0, &[length as u64, left.vector]);
+    text::print(rt, b"exp all # #\n", 0, &[length as u64, left.vector])
 }
 
 // The operation, and which of its numbers is printed: 0 out, 1 half, 2 the vector, 3 the minimum, 4 the index. In the order
@@ -44,13 +46,20 @@ const BOUNDS: [u64; 15] = [
 ];
 
 // Fifteen lines for each of 77 vectors.
-pub fn lines() {
+pub fn lines(rt: &impl Print) -> io::Result<()> {
     let lines = LINES;
     let bounds = BOUNDS;
     for k in 0..1155 {
         let i = k % 15;
-        print(i as u64, vector_at((k / 15) as u32), lines[i], bounds[i]);
+        print(
+            rt,
+            i as u64,
+            vector_at((k / 15) as u32),
+            lines[i],
+            bounds[i],
+        )?;
     }
+    Ok(())
 }
 
 // The level and two digits for the kind: eleven kinds at levels 5 to 8, then the spikes at level 5.
@@ -61,25 +70,27 @@ fn vector_at(k: u32) -> u32 {
     516 + (k - 44) % 33
 }
 
-fn print(i: u64, vector: u32, line: u32, bound: u64) {
+fn print(rt: &impl Print, i: u64, vector: u32, line: u32, bound: u64) -> io::Result<()> {
     let shown = line % 10;
     let n = number(line / 10, vector, bound, shown as usize);
-    name(i, bound);
+    name(rt, i, bound)?;
     text::print(
+        rt,
         b" level # vector # #\n| level # vector # #\n| level # vector # #\n\
         | level # vector # $\n| level # vector # ?\n",
         shown as u64,
         &[(vector / 100) as u64, (vector % 100) as u64, n],
-    );
+    )
 }
 
-fn name(i: u64, bound: u64) {
+fn name(rt: &impl Print, i: u64, bound: u64) -> io::Result<()> {
     text::print(
+        rt,
         b"diff|diff2|diff3|dissipation|corrected|min|threshold\
         |bound $|bound $|bound $|bound $|bound $|bound $|bound $|neumann",
         i,
         &[bound],
-    );
+    )
 }
 
 // The digest of out, of half or of the vector after the operation, the minimum, or the index at or below the bound.

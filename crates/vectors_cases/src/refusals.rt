@@ -1,6 +1,7 @@
 // What the stencils answer where a level or a length is refused, and that memory stays as it was.
 use crate::memories::{Case, Left};
 use crate::{memories, text};
+use std::io;
 
 // The level, and two digits each for the lengths of the vector, of the half dissipation and of the result.
 #[rattlefmt::skip]
@@ -11,13 +12,14 @@ const ROWS: [u32; 17] = [
 ];
 
 // Each of the five stencils on each row.
-pub fn cases() {
+pub fn cases(rt: &impl Print) -> io::Result<()> {
     let table = ROWS;
     for k in 0..85 {
         let operation = (k / 17) as u32;
         let row = table[k % 17];
-        print(operation, row, outcome(operation, row));
+        print(rt, operation, row, outcome(operation, row))?;
     }
+    Ok(())
 }
 
 // The digests are of memories of 80 numbers.
@@ -33,8 +35,9 @@ fn outcome(operation: u32, row: u32) -> Left {
     })
 }
 
-fn print(operation: u32, row: u32, left: Left) {
+fn print(rt: &impl Print, operation: u32, row: u32, left: Left) -> io::Result<()> {
     text::print(
+        rt,
         b"diff level # lengths # # |diff2 level # lengths # # |diff3 level # lengths # # \
         |dissipation level # lengths # # |neumann level # lengths # # ",
         operation as u64,
@@ -43,10 +46,11 @@ fn print(operation: u32, row: u32, left: Left) {
             (row / 10000 % 100) as u64,
             (row % 100) as u64,
         ],
-    );
+    )?;
     text::print(
+        rt,
         b"answer # left # # #\n",
         0,
         &[left.answer, left.vector, left.half, left.out],
-    );
+    )
 }

@@ -1,20 +1,23 @@
 // Text by a pattern: of the alternatives between bars one is printed, with the numbers in turn for its marks.
 // # is a number in decimal, $ in hexadecimal, ? an index or `none`.
 
+use std::io;
+
 // What stands for an index where there is none.
 pub const NOWHERE: u64 = 0xFFFFFFFFFFFFFFFF;
 
-pub fn print(pattern: &[u8], alternative: u64, numbers: &[u64]) {
-    let mut bars = 0;
-    let mut next = 0;
+pub fn print(rt: &impl Print, pattern: &[u8], alternative: u64, numbers: &[u64]) -> io::Result<()> {
+    let mut bars = 0u64;
+    let mut next = 0usize;
     for i in 0..pattern.len() {
         let byte = pattern[i];
         if byte == b'|' {
-            bars = std::num::wrapping_add_u64(bars, 1);
+            bars = bars.wrapping_add(1);
         } else if bars == alternative {
-            next = std::num::wrapping_add_usize(next, put(byte, number(numbers, next)));
+            next = next.wrapping_add(put(rt, byte, number(numbers, next))?);
         }
     }
+    Ok(())
 }
 
 fn number(numbers: &[u64], at: usize) -> u64 {
@@ -25,27 +28,27 @@ fn number(numbers: &[u64], at: usize) -> u64 {
 }
 
 // Prints a byte, or n where the byte is a mark, and answers how many numbers that took.
-fn put(byte: u8, n: u64) -> usize {
+fn put(rt: &impl Print, byte: u8, n: u64) -> io::Result<usize> {
     match byte {
         b'#' => {
-            io::print_decimal(1, n);
-            1
+            print!(rt; "{n}")?;
+            Ok(1)
         }
         b'$' => {
-            io::print_hex(1, n, 16);
-            1
+            print!(rt; "{n:016x}")?;
+            Ok(1)
         }
         b'?' => {
             if n == NOWHERE {
-                io::write_all(1, b"none");
+                print!(rt; "none")?;
             } else {
-                io::print_decimal(1, n);
+                print!(rt; "{n}")?;
             }
-            1
+            Ok(1)
         }
         _ => {
-            io::write_all(1, &[byte]);
-            0
+            rt.write_all(&[byte])?;
+            Ok(0)
         }
     }
 }

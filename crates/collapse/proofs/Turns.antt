@@ -121,7 +121,7 @@ module _ (order : List ℕ) (memory work frames : List Float) (out : List ℕ) w
       }
 
   module _ (memory' work' frames' : List Float) (out' : List ℕ) where
-    pub going_next :
+    going_next :
         (call : Carried) → is_more call ≡ true → length work' ≡ length work → length frames' ≡ length frames →
         Going (after_carried call memory' frames' out') → Going (then_called (left_of call) order memory' work' frames' out')
     unfolding call_at texts_to printed_by calls_left calls_of
@@ -205,49 +205,13 @@ module _ (order : List ℕ) (memory work frames : List Float) (out : List ℕ) w
         subst (λ (c : AfterCall). calls_left order (next_of c.answer) < calls_of order j) (sym q)
         (go_on_falls j order memory' work' frames' out' (subst (λ (k : ℕ). FairNext k (some j)) (sym l) g.fair))
 
--- ---- the program's loop
--- from one call to a later one, whatever the order was begun with, in memories of these lengths
-pub record Leads (order : List ℕ) (work frames : ℕ) (c d : AfterCall) : Type 0 where
-  pub keeps :
-      (memory₀ work₀ frames₀ : List Float) (out₀ : List ℕ) → work ≡ length work₀ → frames ≡ length frames₀ →
-      Going order memory₀ work₀ frames₀ out₀ c → Going order memory₀ work₀ frames₀ out₀ d
-
-pub leads_next :
-    (order : List ℕ) (memory work frames : List Float) (out : List ℕ) (call r : Carried) (m f : List Float) (o : List ℕ) →
-    after_carried r m f o ≡ then_called (left_of call) order memory work frames out → is_more call ≡ true →
-    (w k : ℕ) → length work ≡ w → length frames ≡ k →
-    (c : AfterCall) → Leads order w k c (after_carried call memory frames out) → Leads order w k c (after_carried r m f o)
-leads_next order memory work frames out call r m f o q h w k e l c before =
-    record {
-      keeps =
-          λ memory₀ work₀ frames₀ out₀ e₀ l₀ g.
-          subst (Going order memory₀ work₀ frames₀ out₀) (sym q)
-          (going_next order memory₀ work₀ frames₀ out₀ memory work frames out call h (e ∙ e₀) (l ∙ l₀)
-          (before.keeps memory₀ work₀ frames₀ out₀ e₀ l₀ g));
-    }
-
--- whether a job is left, by the loop's test
-pub went : (written more test : Bool) → test ≡ (written && more) → test ≡ true → more ≡ true
-went true more test e h = sym e ∙ h
-went false more test e h = absurd (false≢true (sym e ∙ h))
-
+-- ---- the program's loop: no job is left where its test failed after all was written
 pub stopped : (written more test : Bool) → test ≡ (written && more) → test ≡ false → written ≡ true → more ≡ false
 stopped true more test e h w = sym e ∙ h
 stopped false more test e h w = absurd (false≢true w)
 
 -- ---- what the parts promise, by the call
 module _ (order : List ℕ) (memory work frames : List Float) (out : List ℕ) where
-  pub after_none :
-      (call : Carried) → is_more call ≡ false → after_carried NoRoom memory frames out ≡ then_called (left_of call) order memory work frames out
-  after_none NoRoom h = refl
-  after_none (Last end) h = refl
-  after_none (More end j) h = absurd (false≢true (sym h))
-
-  pub after_more :
-      (call : Carried) (end : ℕ) (j : Job) → call ≡ More end j → (r : Carried) (m f : List Float) (o : List ℕ) →
-      after_carried r m f o ≡ go_on_of j order memory work frames out → after_carried r m f o ≡ then_called (left_of call) order memory work frames out
-  after_more call end j e r m f o q = q ∙ sym (ap (λ (k : Carried). then_called (left_of k) order memory work frames out) e)
-
   pub begun_ends :
       (r : Carried) (m f : List Float) (o : List ℕ) → after_carried r m f o ≡ begin_order_of order memory work frames out → end_of r ≤ length o
   begun_ends r m f o q = subst Ends (sym q) (begin_ends order memory work frames out)
@@ -257,11 +221,17 @@ module _ (order : List ℕ) (memory work frames : List Float) (out : List ℕ) w
       end_of r ≤ length o
   next_ends call r m f o q = subst Ends (sym q) (then_ends (left_of call) order memory work frames out)
 
-  -- from begin to a later call
-  pub going_since :
+  -- the call that begin_order answered, and one after a call that left a job
+  pub going_begin :
       Lent (length memory) (length work) (length frames) (length out) → (r : Carried) (m f : List Float) (o : List ℕ) →
-      after_carried r m f o ≡ begin_order_of order memory work frames out → (w k : ℕ) (d : AfterCall) → Leads order w k (after_carried r m f o) d →
-      w ≡ length work → k ≡ length frames → Going order memory work frames out d
-  going_since lent r m f o q w k d leads e l =
-      leads.keeps memory work frames out e l
-      (subst (Going order memory work frames out) (sym q) (going_begun order memory work frames out lent))
+      after_carried r m f o ≡ begin_order_of order memory work frames out → Going order memory work frames out (after_carried r m f o)
+  going_begin lent r m f o q = subst (Going order memory work frames out) (sym q) (going_begun order memory work frames out lent)
+
+  pub going_on :
+      (memory' work' frames' : List Float) (out' : List ℕ) (call : Carried) → is_more call ≡ true →
+      length work' ≡ length work → length frames' ≡ length frames →
+      Going order memory work frames out (after_carried call memory' frames' out') → (r : Carried) (m f : List Float) (o : List ℕ) →
+      after_carried r m f o ≡ then_called (left_of call) order memory' work' frames' out' →
+      Going order memory work frames out (after_carried r m f o)
+  going_on memory' work' frames' out' call h w k g r m f o q =
+      subst (Going order memory work frames out) (sym q) (going_next order memory work frames out memory' work' frames' out' call h w k g)

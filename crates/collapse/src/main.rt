@@ -1,27 +1,42 @@
 // Carries out the order on standard input: its lines go to standard output. A read or a write that fails ends the program; standard error says
 // which, and a line that was cut has no newline.
+#![tactic(auto)]
+
 ghost use Rattle.std.specs.Prelude.{◌≤◌, ◌&&◌, ◌≡◌, length, take};
 ghost use Rattle.run.specs.CarryOut.{after_carried};
 ghost use Rattle.program_io.specs.Input.{lent_input};
 ghost use Rattle.program_io.specs.Output.{is_all, Sent};
 ghost use Rattle.collapse.specs.Turns.{Lent, is_more, left_of, end_of, then_called, CarriedOut, Answers};
 
-use program_io::{Input, Written, is_all, read_input, write};
+use program_io::{Input, Noted, Written, is_all, read_input, tell_failure, write};
 use run::carry_out::{Carried, begin_order, go_on};
+use std::io;
+use std::io::Write;
 
 // Reads at most one byte more than an order may have.
-fn main() {
+fn main(rt: HostRuntime) -> io::Result<()> {
+    let mut stdin = Noted::new(rt.stdin());
     let mut input = [0u8; 4097];
-    let read = read_input(&mut input);
+    let read = read_input(&mut stdin, &mut input);
     match read {
-        Input::Failed => os::fail(b"collapse: standard input"),
-        Input::Ended(count, _) => report(answer(&input, count)),
-        Input::Full(count) => report(answer(&input, count)),
+        Input::Failed => tell_failure(&rt, "collapse: standard input", stdin.error),
+        Input::Ended(count, _) => print_answer(&rt, &input, count),
+        Input::Full(count) => print_answer(&rt, &input, count),
     }
 }
 
+// Standard output gets the lines; standard error says where a write took nothing.
+fn print_answer(rt: &HostRuntime, buffer: &[u8], count: usize) -> io::Result<()>
+    requires buffer_len { length buffer.now ≡ lent_input }
+    requires count_in_bounds { count ≤ length buffer.now }
+{
+    let mut stdout = Noted::new(rt.stdout());
+    let written = answer(&mut stdout, buffer, count);
+    report(rt, written, stdout.error)
+}
+
 // Carries out the order in the first count bytes: lends for level 7, 8,192 frame numbers and their lines.
-fn answer(buffer: &[u8], count: usize) -> Written
+fn answer(output: &mut impl Write, buffer: &[u8], count: usize) -> Written
     requires buffer_len { length buffer.now ≡ lent_input }
     requires count_in_bounds { count ≤ length buffer.now }
     ensures { Answers (take count buffer.now) result }
@@ -31,6 +46,7 @@ fn answer(buffer: &[u8], count: usize) -> Written
     let mut frames = [0.0; 8192];
     let mut out = [0u8; 147520];
     carry_out(
+        output,
         &buffer[0..count],
         &mut state,
         &mut work,
@@ -39,15 +55,17 @@ fn answer(buffer: &[u8], count: usize) -> Written
     )
 }
 
-// Standard error says where a write took nothing.
-fn report(written: Written) {
-    if !is_all(written) {
-        os::fail(b"collapse: standard output");
+// Standard error says where a write took nothing, and why.
+fn report(rt: &impl Eprint, written: Written, error: io::Error) -> io::Result<()> {
+    if is_all(written) {
+        return Ok(());
     }
+    tell_failure(rt, "collapse: standard output", error)
 }
 
 // The whole order, a call at a time; what was written of the last one.
 fn carry_out(
+    output: &mut impl Write,
     input: &[u8],
     state: &mut [f64],
     work: &mut [f64],
@@ -58,10 +76,10 @@ fn carry_out(
     ensures { CarriedOut input.now state.old work.old frames.old out.old state.new frames.new out.new result }
 {
     let mut call = begin_order(input, state, work, frames, out);
-    let mut written = send(out, end_of(call));
+    let mut written = send(output, out, end_of(call));
     while goes_on(written, call) {
         call = next_call(call, input, state, work, frames, out);
-        written = send(out, end_of(call));
+        written = send(output, out, end_of(call));
     }
     written
 }
@@ -107,9 +125,9 @@ fn end_of(call: Carried) -> usize
 }
 
 // Writes the lines that end there.
-fn send(out: &[u8], end: usize) -> Written
+fn send(output: &mut impl Write, out: &[u8], end: usize) -> Written
     requires { end ≤ length out.now }
     ensures { Sent end result }
 {
-    write(&out[0..end])
+    write(output, &out[0..end])
 }

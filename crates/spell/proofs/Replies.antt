@@ -1,19 +1,20 @@
 -- The reply to an order, by what a call of `spell` answered and left in 4,096 lent bytes.
-use Prim.Native.Nat.{ℕ, ◌-◌, ◌≤◌}
+use Prim.Native.Nat.{ℕ, ◌-◌, ◌≤◌, ◌<◌}
 use mathlib.Core.List.{List}
-use mathlib.Core.Path.{◌≡◌, sym, ◌∙◌, ap, subst}
+use mathlib.Core.Path.{◌≡◌, refl, sym, ◌∙◌, ap, subst}
 use native.Mathlib.Omega.{arith}
 use lib.ListN.{length, take}
+use lib.Seq.{length-take-le}
 use Rattle.order_forms.specs.Spelling.{AfterSpelling, after_spelling, spelling}
 use Rattle.order_forms.specs.declared.spelling.Spelled.{Spelled}
 use Rattle.order_forms.specs.declared.spelling.Spelled.TheVariants.{To}
 use Rattle.program_io.specs.Output as output
 use Rattle.program_io.specs.declared.Written.{Written}
 use Rattle.spell.specs.declared.Answer.{Answer}
-use Rattle.spell.specs.declared.Answer.TheVariants.{Sent}
+use Rattle.spell.specs.declared.Answer.TheVariants.{Refused, Sent}
 use Rattle.spell.specs.Reply.{Reply, spelled, reply_of}
 use Rattle.spell.specs.Answers.{Answers}
-use Rattle.spell.specs.ReplyLaws.{reply_in, spelling_replies, spelling_ends}
+use Rattle.spell.specs.ReplyLaws.{reply_in, long_refused, spelling_replies, spelling_ends}
 
 module _
     (order lent : List ℕ) (few : length order ≤ 4096) (room : 4096 ≤ length lent) (r : Spelled) (out : List ℕ)
@@ -38,3 +39,8 @@ module _
 
       pub answers_sent : (w : Written) → output.Sent (length (take (end - 0) out)) w → Answers (reply_of order) (Sent w)
       answers_sent w = subst (λ (y : Reply). Answers y (Sent w)) (sym reply_bytes)
+
+pub answers_long : (n : ℕ) (bytes : List ℕ) → 4096 < n → n ≤ length bytes → Answers (reply_of (take n bytes)) (Refused 8)
+answers_long n bytes long fits =
+    let all = length-take-le n bytes fits in
+    subst (λ (y : Reply). Answers y (Refused 8)) (sym (long_refused (take n bytes) (omega arith))) refl

@@ -6,9 +6,10 @@ use Rattle.std.specs.Float.Ieee.Exact.{HasValue}
 use Rattle.vectors.proofs.Floats.{whole_value}
 use Rattle.vectors.specs.Constants.{whole}
 use Rattle.run.specs.declared.settings.Settings.{Settings}
-use Rattle.threshold.specs.BracketKept.{bracket_kept, asked_for}
+use Rattle.threshold.specs.BracketKept.{asked_for}
+use Rattle.threshold.proofs.BracketKept.{bracket_kept}
 use Rattle.threshold.specs.Halving.{times_out, collapses, neither, refused_run, Why, used, adjacent, undecided, Bracket}
-use Rattle.threshold.specs.MiddleRefused.{middle_refused}
+use Rattle.threshold.proofs.MiddleRefused.{middle_refused}
 use Rattle.threshold.specs.Search.{found, search_of}
 use Rattle.claims.specs.RefusalNumbers.{among}
 use Rattle.capi.specs.SearchCall.{middle_number, why_number}

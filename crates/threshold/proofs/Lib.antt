@@ -1,1 +1,5 @@
+pub mod BracketKept
 pub mod Halves
+pub mod HalvingKept
+pub mod HalvingsMade
+pub mod MiddleRefused

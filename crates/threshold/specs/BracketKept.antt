@@ -1,20 +1,18 @@
--- 02, request 1: what every accepted search keeps. Nothing here assumes that collapse is monotone in the amplitude.
-use Rattle.std.specs.Prelude.{◌≡◌, ℕ, ◌+◌, ◌-◌, ◌*◌, ◌^◌, ◌<◌, ◌≤◌, Bool, true, false, cond, ◌&&◌, ◌↔◌, ◌==◌, ◌≢◌, nat_le, nat_lt, Float}
+-- 02, request 1: what every accepted search keeps (`bracket_kept` in proofs). Nothing here assumes that collapse is monotone in the amplitude.
+use Rattle.std.specs.Prelude.{◌≡◌, ℕ, ◌+◌, ◌-◌, ◌*◌, ◌^◌, ◌<◌, ◌≤◌, Bool, true, false, cond, ◌&&◌, ◌↔◌, ◌≢◌, nat_le, nat_lt, Float}
 use Rattle.std.proofs.lemmas.Bool.{false≢true}
 use Rattle.std.proofs.Math.Option.{Option, none, some}
 use Rattle.std.proofs.Math.Path.{refl, sym}
-use Rattle.std.proofs.Common.{ap, ◌∙◌, subst, arith}
-use borrow.Author.Tests.{ltb-true, leb-true, eq-eqb, ne_eqb}
+use Rattle.std.proofs.Common.{arith}
+use borrow.Author.Tests.{ltb-true, leb-true}
 use Rattle.run.specs.declared.settings.Settings.{Settings}
-use Rattle.run.specs.Clock.{whole_above}
 use Rattle.run.specs.ModelLaws.{some_not_none}
 use Rattle.run.specs.Outcome.{Outcome, collapse, broke, timeout, spent}
 use Rattle.run.specs.PlainRun.{option, has_ended, outcome_of, start, plain_run}
 use Rattle.run.specs.Tally.{too_many}
 use Rattle.run.specs.Calls.{begin_refusal}
 use Rattle.run.specs.SkipRun.{skipping, not_begun, not_run, ran_to, ran_at}
-use Rattle.threshold.specs.Halving.{Side, times_out, collapses, neither, refused_run, Why, used, adjacent, undecided, reason_of, Bracket, halve, StoppedBy}
-use Rattle.threshold.specs.HalvingLaws.{Kept, kept, gap_halved}
+use Rattle.threshold.specs.Halving.{Side, times_out, collapses, neither, refused_run, used, adjacent, undecided, Bracket, halve, StoppedBy}
 use Rattle.threshold.specs.Search.{amplitude_at, side_of, is_timeout, is_collapse, begun_refusal, ends_refusal, is_asked, refused_search, found, side_at, sought_of, search_of}
 
 -- ---- what a run that answers timeout or collapse is
@@ -52,7 +50,7 @@ ends_run none none neither y e = absurd (some_not_none 16 e)
 ends_run none none (refused_run n) y e = absurd (some_not_none 16 e)
 
 -- ends and halvings that are not refused with 15
-abbrev Asked : (low high halvings : ℕ) → Type 0
+abbrev pub Asked : (low high halvings : ℕ) → Type 0
 Asked low high halvings = (low < high) × ((high ≤ 2 ^ 42) × (halvings ≤ 40))
 
 asked_by : (low high halvings : ℕ) → is_asked low high halvings ≡ true → Asked low high halvings
@@ -91,7 +89,7 @@ module _ (unit : Float) (s : Settings) (budget state work : ℕ) where
       let w = run_not_refused u times_out (λ n q. let z : ◌≡◌ {A = ℕ} 0 1 = cc in absurd (omega arith)) e in
       (w.0, (w.1.0, is_timeout_lem (plain_run (at u) budget).steps (plain_run (at u) budget).state.time (outcome_at u) w.1.1))
 
-  plain_collapse : (u : ℕ) → run u ≡ collapses → (m : Float) × (outcome_at u ≡ collapse m)
+  pub plain_collapse : (u : ℕ) → run u ≡ collapses → (m : Float) × (outcome_at u ≡ collapse m)
   plain_collapse u e =
       let w = run_not_refused u collapses (λ n q. let z : ◌≡◌ {A = ℕ} 0 1 = cc in absurd (omega arith)) e in
       is_collapse_lem (plain_run (at u) budget).steps (plain_run (at u) budget).state.time (outcome_at u) w.1.1
@@ -110,13 +108,13 @@ module _ (unit : Float) (s : Settings) (budget state work : ℕ) where
     pub gap : (c : ℕ) → high - low ≤ c * 2 ^ b.made → b.high - b.low ≤ c
 
   module _ (low high halvings : ℕ) (b : Bracket) (e : search_of unit s budget state work low high halvings ≡ found b) where
-    record Accepted : Type 0 where
-      asked : Asked low high halvings
-      low_side : run low ≡ times_out
-      high_side : run high ≡ collapses
-      is : b ≡ halve run halvings 0 low high
+    pub record Accepted : Type 0 where
+      pub asked : Asked low high halvings
+      pub low_side : run low ≡ times_out
+      pub high_side : run high ≡ collapses
+      pub is : b ≡ halve run halvings 0 low high
 
-    accepted : Accepted
+    pub accepted : Accepted
     unfolding search_of sought_of ends_refusal side_at
     accepted =
         go (is_asked low high halvings) (asked_by low high halvings)
@@ -140,52 +138,3 @@ module _ (unit : Float) (s : Settings) (budget state work : ℕ) where
 
     pub asked_for : (high ≤ 2 ^ 42) × (halvings ≤ 40)
     asked_for = accepted.asked.1
-
-    pub keeps : Kept run low high halvings 0 b
-    keeps =
-        let a = accepted in
-        subst (Kept run low high halvings 0) (sym a.is) (kept run halvings 0 low high a.asked.0 a.low_side a.high_side)
-
-    pub bracket_kept : BracketKept low high halvings b
-    bracket_kept =
-        let k = keeps in
-        let all : 0 + halvings ≡ halvings = omega arith in
-        let none_before : b.made - 0 ≡ b.made = omega arith in
-        record {
-          ordered = k.ordered;
-          above = k.above;
-          below = k.below;
-          low_run = (run_timeout b.low k.low_run).1.1;
-          high_run = plain_collapse b.high k.high_run;
-          few = omega (arith, k.at_most);
-          used_exactly = (λ q. k.when_used q ∙ all, λ q. k.all_made (q ∙ sym all));
-          when_adjacent = λ q. (let f = k.when_adjacent q in (f.0, omega (arith, f.1)));
-          when_stopped = λ r q. (let f = k.when_stopped r q in (f.0, omega (arith, f.1)));
-          gap = λ c q. k.gap c (subst (λ (n : ℕ). high - low ≤ c * 2 ^ n) (sym none_before) q);
-        }
-
-    -- "If all q halvings are made, the gap is at most the first gap divided by 2^q, rounded up."
-    pub gap_all : b.made ≡ halvings → b.high - b.low ≤ whole_above (high - low) (2 ^ halvings)
-    gap_all m =
-        let a = accepted in
-        let made : (halve run halvings 0 low high).made ≡ halvings = ap (λ (x : Bracket). x.made) (sym a.is) ∙ m in
-        subst (λ (x : Bracket). x.high - x.low ≤ whole_above (high - low) (2 ^ halvings)) (sym a.is)
-        (gap_halved run halvings low high a.asked.0 a.low_side a.high_side made)
-
-    -- "It stops, the first that applies named": 1 exactly if the halvings are used, else 2 exactly if the ends differ by 1
-    pub first_named : reason_of b.why ≡ cond (b.made == halvings) 1 (cond (b.high - b.low == 1) 2 3)
-    unfolding reason_of
-    first_named = go b.why refl
-      where
-        go : (w : Why) → b.why ≡ w → reason_of w ≡ cond (b.made == halvings) 1 (cond (b.high - b.low == 1) 2 3)
-        go used e = rw (eq-eqb b.made halvings (bracket_kept.used_exactly.0 e))
-        go adjacent e =
-            let k = bracket_kept.when_adjacent e in
-            let f = k.0 in
-            let l = k.1 in
-            rw (ne_eqb b.made halvings (λ q. omega arith), eq-eqb (b.high - b.low) 1 (omega arith))
-        go (undecided r) e =
-            let k = bracket_kept.when_stopped r e in
-            let w = k.0.wide in
-            let l = k.1 in
-            rw (ne_eqb b.made halvings (λ q. omega arith), ne_eqb (b.high - b.low) 1 (λ q. omega arith))

@@ -2,7 +2,6 @@ pub mod Answers
 pub mod BracketKept
 pub mod Halving
 pub mod HalvingLaws
-pub mod MiddleRefused
 pub mod Search
 pub mod SearchLaws
 pub mod UnitExact

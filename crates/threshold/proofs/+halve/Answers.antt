@@ -1,7 +1,7 @@
 -- `threshold::halve` meets its contract.
 use Rattle.std.proofs.Common.{sym, refl, ap, ◌∙◌, rules}
 use Rattle.run.specs.Answers.{ran_of}
-use Rattle.threshold.specs.SearchLaws.{halved_none, halved_adjacent, halved_stopped, halved_further}
+use Rattle.threshold.proofs.HalvingsMade.{halved_none, halved_adjacent, halved_stopped, halved_further}
 use Rattle.threshold.specs.Answers.{side_is}
 use Rattle.threshold.proofs.Halves.{positive}
 use Rattle.threshold.proofs.+halve.Goals as goal

@@ -17,7 +17,8 @@ use Rattle.run.specs.SkipRunLaws.{lent_same}
 use Rattle.run.specs.Tally.{too_many}
 use Rattle.threshold.specs.Halving.{refused_run, undecided, Bracket}
 use Rattle.threshold.specs.Search.{amplitude_at, side_of, found, side_at, search_of}
-use Rattle.threshold.specs.BracketKept.{at, outcome_at, run_timeout, keeps}
+use Rattle.threshold.specs.BracketKept.{at, outcome_at, run_timeout}
+use Rattle.threshold.proofs.BracketKept.{keeps}
 
 -- timeout wants a step
 start_no_timeout : (s : Settings) → outcome_of s (start s) ≢ timeout

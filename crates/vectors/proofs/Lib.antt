@@ -1,2 +1,3 @@
--- What the proofs of more than one module use.
+-- What the proofs of more than one module use, and that the rows have their moments.
 pub mod Floats
+pub mod Moments

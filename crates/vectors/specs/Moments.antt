@@ -1,12 +1,9 @@
 -- The moment conditions of the stencil rows (01, "Stencils"): "Rows satisfy, with o the offset from the row's point and w its weight: sum of w × o^q ..".
--- One list holds all rows, one computed test goes over it, and `moment_conditions` turns the test into the conditions of each row.
-use Rattle.std.specs.Prelude.{◌≡◌, refl, ℕ, suc, ◌<◌, ℤ, pos, ◌+ℤ◌, ◌*ℤ◌, length, get_or}
-use Rattle.std.proofs.Common.{sym, ap, ◌∙◌}
-use mathlib.Core.List.{List, [], ◌∷◌, ◌++◌, map, Memᴰ}
-use Rattle.std.proofs.Math.IntN.{one, pow}
-use Rattle.vectors.specs.Memory.{tab_from, tab}
-use Rattle.vectors.specs.MemoryLaws.{get_d_tab, same_at}
-use Rattle.vectors.specs.Stencil.{Row, offset_of, Rows, diff_rows, diff2_rows, diff_left0, diff_left1, diff_inner, diff_right1, diff_right0, diff2_left0, diff2_left1, diff2_inner, diff2_right1, diff2_right0, diff3_row}
+-- One list holds all rows; `moment_conditions` of proofs/Moments.antt says that each meets them.
+use Rattle.std.specs.Prelude.{◌≡◌, ℕ, suc, ◌<◌, ℤ, pos, ◌+ℤ◌, ◌*ℤ◌, length, get_or}
+use mathlib.Core.List.{List, [], ◌∷◌, ◌++◌, map}
+use Rattle.std.proofs.Math.IntN.{pow}
+use Rattle.vectors.specs.Stencil.{Row, offset_of, Rows, diff_rows, diff2_rows, diff3_row}
 
 -- the sum of w × o^q over the weights from weight j on
 unfoldable pub moment_from : Row → ℕ → ℕ → List ℤ → ℤ
@@ -50,22 +47,3 @@ asked_of moments rows = map (λ row. record { moments = moments; row = row }) (r
 unfoldable pub rows : List Asked
 unfolding diff_rows diff2_rows diff3_row
 rows = asked_of diff_moments diff_rows ++ (asked_of diff2_moments diff2_rows ++ (record { moments = diff3_moments; row = diff3_row } ∷ []))
-
--- as many moments of the row as are asked
-moments_of : Asked → List ℤ
-moments_of a = tab (length a.moments) (moment_of a.row)
-
--- the test
-rows_meet : map moments_of rows ≡ map (λ (a : Asked). a.moments) rows
-unfolding rows moments_of tab tab_from moment_of moment_from pow one diff_left0 diff_left1 diff_inner diff_right1 diff_right0 diff2_left0 diff2_left1 diff2_inner diff2_right1 diff2_right0
-rows_meet = refl
-
--- every row of the list has the moments asked
-pub moment_conditions : (a : Asked) → Memᴰ a rows → Meets a.moments a.row
-unfolding moments_of
-moment_conditions a m =
-    record {
-      moment = λ q h.
-          sym (get_d_tab (length a.moments) (moment_of a.row) q (pos 0) h)
-          ∙ ap (λ (list : List ℤ). get_or list q (pos 0)) (same_at moments_of (λ (a : Asked). a.moments) rows a rows_meet m);
-    }

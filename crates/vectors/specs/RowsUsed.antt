@@ -1,16 +1,11 @@
--- The row that `diff_at`, `diff2_at` or `diff3_at` uses at a point has the moments that 01 asks (01, "Stencils": "Rows satisfy .."), and each of its
--- weights stands at i + o, "o the offset from the row's point", inside the vector.
-use Rattle.std.specs.Prelude.{◌≡◌, refl, Bool, true, false, cond, ◌&&◌, ℕ, suc, ◌+◌, ◌-◌, ◌≤◌, ◌<◌, T, eqb, leb, ltb, Float, ℤ, pos, ◌+ℤ◌, length}
+-- Each weight of the row that `diff_at`, `diff2_at` or `diff3_at` uses at a point stands at i + o, "o the offset from the row's point" (01, "Stencils"),
+-- inside the vector. That the row has the moments that 01 asks is proved in proofs/Moments.antt.
+use Rattle.std.specs.Prelude.{◌≡◌, refl, Bool, true, false, cond, ◌&&◌, List, ℕ, suc, ◌+◌, ◌-◌, ◌≤◌, ◌<◌, T, eqb, leb, ltb, Float, ℤ, pos, ◌+ℤ◌, length}
 use Rattle.std.proofs.Common.{inl, inr, arith, leb→le}
-use mathlib.Core.List.Memᴰ
-use mathlib.Core.List.Memᴰ.{head as here}
-use mathlib.Core.List.Memᴰ.{tail as later}
-use mathlib.Core.List.{List, Memᴰ}
 use borrow.Author.Tests.{eqb-true, eqb-false, ltb-true, ltb-false, le-leb, lt-leb, lt-ltb, le-ltb}
 use Rattle.std.specs.Float.Ieee.{minus}
 use Rattle.std.specs.Float.Ieee.Fits.{and_l, and_r}
 use Rattle.vectors.specs.MemoryLaws.{side}
-use Rattle.vectors.specs.Moments.{Meets, Asked, asked_of, rows, moment_conditions, diff_moments, diff2_moments, diff3_moments}
 use Rattle.vectors.specs.Stencil.{Row, offset_of, place_of, Rows, row_at, diff_rows, diff2_rows, inward, diff_left0, diff_left1, diff_inner, diff_right1, diff_right0, diff2_left0, diff2_left1, diff2_inner, diff2_right1, diff2_right0, diff3_row, diff3_at}
 
 -- ---- the row of a point
@@ -20,7 +15,7 @@ either P true p q = p refl
 either P false p q = q refl
 
 -- what holds of each row at the points that it is for holds of the row of every point
-at_each : (given : Rows) (n i : ℕ) (P : Row → Type 0)
+pub at_each : (given : Rows) (n i : ℕ) (P : Row → Type 0)
     → (i ≡ 0 → P given.left0)
     → (i ≡ 1 → P given.left1)
     → (2 ≤ i → i < n - 2 → P given.inner)
@@ -38,34 +33,6 @@ at_each given n i P left0 left1 inner right1 right0 =
     either P (ltb i (n - 1)) (λ e. right1 (omega arith) (ltb-true i (n - 1) e)) (λ d.
     let d' = ltb-false i (n - 1) d in
     right0 (omega arith)))))
-
--- ---- moments
-
--- the row of a point is one of the rows
-in_asked : (moments : List ℤ) (given : Rows) (n i : ℕ) → Memᴰ (record { moments = moments; row = row_at given n i }) (asked_of moments given)
-in_asked moments given n i =
-    at_each given n i (λ row. Memᴰ {A = Asked} (record { moments = moments; row = row }) (asked_of moments given))
-    (λ e. here refl)
-    (λ e. later (here refl))
-    (λ a b. later (later (here refl)))
-    (λ a b. later (later (later (here refl))))
-    (λ a. later (later (later (later (here refl)))))
-
--- `diff` at every point
-pub diff_meets : (n i : ℕ) → Meets diff_moments (row_at diff_rows n i)
-unfolding rows
-diff_meets n i = moment_conditions _ (Memᴰ.append_left _ (in_asked diff_moments diff_rows n i))
-
--- `diff2` at every point
-pub diff2_meets : (n i : ℕ) → Meets diff2_moments (row_at diff2_rows n i)
-unfolding rows
-diff2_meets n i = moment_conditions _ (Memᴰ.append_right (asked_of diff_moments diff_rows) (Memᴰ.append_left _ (in_asked diff2_moments diff2_rows n i)))
-
--- the third difference has one row, about "the centre of its seven points"
-pub diff3_meets : Meets diff3_moments diff3_row
-unfolding rows
-diff3_meets =
-    moment_conditions _ (Memᴰ.append_right (asked_of diff_moments diff_rows) (Memᴰ.append_right (asked_of diff2_moments diff2_rows) (here refl)))
 
 -- ---- places
 

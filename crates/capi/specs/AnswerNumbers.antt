@@ -18,7 +18,7 @@ use Rattle.run.specs.Order.{read_order}
 use Rattle.run.specs.Report.{no_room_for_text}
 use Rattle.threshold.specs.Search.{Sought, refused_search, found, search_of}
 use Rattle.claims.specs.RefusalNumbers.{among, refusal_among, among_longer, begin_refusals, advance_refusals, search_refusals, sought_refusal, begin_refusals_lem, advance_refusals_lem, search_refusals_lem}
-use Rattle.claims.specs.FaultExactly.{refused_number}
+use Rattle.claims.proofs.FaultExactly.{refused_number}
 use Rattle.order_forms.specs.Spelling.{AfterSpelling, spelling}
 use Rattle.order_forms.specs.SpellingAnswers.{spelling_refused, spelling_short, spelling_written}
 use Rattle.capi.specs.Layout.{settings_in, record_in}

@@ -1,1 +1,11 @@
+pub mod AcceptedExactly
+pub mod BytesExactly
+pub mod FaultExactly
+pub mod FaultReadLaws
+pub mod LaterCalls
+pub mod OrderExamples
+pub mod Recovered
+pub mod RunRecovered
 pub mod Simulate
+pub mod SoundLaws
+pub mod WholeOutputLaws

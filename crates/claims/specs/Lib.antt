@@ -1,5 +1,3 @@
-pub mod AcceptedExactly
-pub mod BytesExactly
 pub mod CollapsedAtOnce
 pub mod CommandBytesLaws
 pub mod CommandKindLaws
@@ -7,8 +5,6 @@ pub mod CommandsLaws
 pub mod DefinitionLaws
 pub mod EndedStays
 pub mod Examples
-pub mod FaultExactly
-pub mod FaultReadLaws
 pub mod FitLaws
 pub mod FlatSpace
 pub mod FormReadLaws
@@ -33,6 +29,4 @@ pub mod RunRecovered
 pub mod SearchNotEmpty
 pub mod SettingPlacesLaws
 pub mod Simulate
-pub mod SoundLaws
 pub mod WholeOutput
-pub mod WholeOutputLaws

@@ -49,3 +49,18 @@ pub data Output (order : List ℕ) : Type 0 where
       begin_refusal s lent_state lent_work lent_frames ≡ none →
       Whole s (length (budgets_from order p.advances 0 p.count)) (lines_of order) → Output order
   refused : (line : Line) → lines_of order ≡ line ∷ [] → refuses_order line ≡ true → Output order
+
+-- the lines that are no frame
+unfoldable pub not_frames : List Line → List Line
+not_frames [] = []
+not_frames (frame xs ∷ ls) = not_frames ls
+not_frames (outcome o steps time ∷ ls) = outcome o steps time ∷ not_frames ls
+not_frames (refusal n ∷ ls) = refusal n ∷ not_frames ls
+not_frames (refusal_at n at ∷ ls) = refusal_at n at ∷ not_frames ls
+
+-- the lines end with one that is no frame
+pub record Ending (lines : List Line) : Type 0 where
+  pub front : List Line
+  pub end : Line
+  pub are : lines ≡ front ++ (end ∷ [])
+  pub ends : ends_advance end ≡ true

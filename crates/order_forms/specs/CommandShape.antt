@@ -12,7 +12,7 @@ use Rattle.run.specs.declared.order.Command.{Command}
 use Rattle.run.specs.declared.order.Command.TheVariants.{Advance}
 use Rattle.run.specs.declared.order.Places.{Places}
 use Rattle.run.specs.declared.order.Read.TheVariants.{Order}
-use Rattle.claims.specs.BytesExactly.{whole_at}
+use Rattle.claims.proofs.BytesExactly.{whole_at}
 use Rattle.claims.specs.CommandBytesLaws.{operand_at, operand_cons, encodes}
 use Rattle.claims.specs.OrderFaults.{kind}
 use Rattle.claims.specs.OrderForm.{Encodes, is01, is02, is03, is04, is05, is06_no, is06_yes, is07, is08, is09}

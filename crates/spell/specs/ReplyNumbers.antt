@@ -4,7 +4,7 @@ use Rattle.std.proofs.Common.{arith}
 use Rattle.run.specs.Order.{read_order}
 use Rattle.run.specs.declared.order.Read.{Read}
 use Rattle.run.specs.declared.order.Read.TheVariants.{Refused, Order}
-use Rattle.claims.specs.FaultExactly.{refused_number}
+use Rattle.claims.proofs.FaultExactly.{refused_number}
 use Rattle.spell.specs.Reply.{refused, refused_at, reply_read, reply_of}
 
 pub reply_number : (input : List ℕ) (number : ℕ) → reply_of input ≡ refused number → number ≡ 8

@@ -14,7 +14,7 @@ use Rattle.claims.specs.CommandKindLaws.{times-append, times_tail, times_perm, s
 use Rattle.claims.specs.OrderFaults.{kind, times}
 use Rattle.claims.specs.CommandsLaws.{head_of, none_left}
 use Rattle.claims.specs.CommandBytesLaws.{operand_at, Coded, coded, encodes}
-use Rattle.claims.specs.AcceptedExactly.{accepted_exactly}
+use Rattle.claims.proofs.AcceptedExactly.{accepted_exactly}
 
 -- ---- from the bytes to the commands
 -- a command's bytes b, with bytes before and after them

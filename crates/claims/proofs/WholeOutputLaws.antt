@@ -24,8 +24,8 @@ use Rattle.run.specs.PlainRun.{start, plain_run, has_ended, outcome_of, option}
 use Rattle.run.specs.PlainRunLaws.{plain_run_formed, plain_run_skipped}
 use Rattle.run.specs.Tally.{too_many}
 use Rattle.claims.specs.RefusalNumbers.{among, refusal_among, among_longer, program_refusals, program_refusals_lem}
-use Rattle.claims.specs.FaultExactly.{refused_number}
-use Rattle.claims.specs.WholeOutput.{ends_advance, Advances, no_advance, advance, first_frames, Whole, Output, carried_out, refused}
+use Rattle.claims.proofs.FaultExactly.{refused_number}
+use Rattle.claims.specs.WholeOutput.{ends_advance, Advances, no_advance, advance, first_frames, Whole, Output, carried_out, refused, not_frames, Ending}
 
 -- ---- what the advances of an order print
 each_drop : {F : ℕ} {fs : List (List Float)} (k : ℕ) → Each F fs → Each F (drop k fs)
@@ -114,14 +114,6 @@ module _ (order : List ℕ) where
       go false e (Order s p) q = begun s p e q (begin_refusal s lent_state lent_work lent_frames) refl
 
 -- ---- exactly one line that is no frame for each advance, the last of them at the end
--- the lines that are no frame
-unfoldable pub not_frames : List Line → List Line
-not_frames [] = []
-not_frames (frame xs ∷ ls) = not_frames ls
-not_frames (outcome o steps time ∷ ls) = outcome o steps time ∷ not_frames ls
-not_frames (refusal n ∷ ls) = refusal n ∷ not_frames ls
-not_frames (refusal_at n at ∷ ls) = refusal_at n at ∷ not_frames ls
-
 frames_none : (fs : List (List Float)) (ls : List Line) → not_frames (map frame fs ++ ls) ≡ not_frames ls
 unfolding not_frames
 frames_none [] ls = refl
@@ -142,13 +134,6 @@ advances_counted (advance {lines = ls} fs end each skipped ends later) =
 
 pub one_each : {s : Settings} {n : ℕ} {ls : List Line} → Whole s n ls → length (not_frames ls) ≡ n
 one_each {s} w = ap (λ (l : List Line). length (not_frames l)) w.are ∙ ap length (frames_none (first_frames s) w.rest) ∙ advances_counted w.told
-
--- the lines end with one that is no frame
-pub record Ending (lines : List Line) : Type 0 where
-  pub front : List Line
-  pub end : Line
-  pub are : lines ≡ front ++ (end ∷ [])
-  pub ends : ends_advance end ≡ true
 
 advances_end : {s : Settings} {n : ℕ} {ls : List Line} → Advances s (suc n) ls → Ending ls
 advances_end (advance fs end e h i no_advance) = record { front = map frame fs; end = end; are = refl; ends = i }

@@ -12,7 +12,7 @@ use Rattle.claims.specs.OrderForm.{Encodes}
 use Rattle.claims.specs.OrderFaults.{kind, Sound, empty, and, InPlace}
 use Rattle.claims.specs.OrderFaults.{Reached, first, next}
 use Rattle.claims.specs.CommandBytesLaws.{operand_at, operand_cons, coded, encodes}
-use Rattle.claims.specs.BytesExactly.{whole_length, command_there, next_there, whole_at}
+use Rattle.claims.proofs.BytesExactly.{whole_length, command_there, next_there, whole_at}
 use Rattle.claims.specs.MisplacedLaws.{Tell, no_fault, in_place, tell_first, tell_next}
 
 -- ---- from the reader's steps to the bytes

@@ -12,9 +12,9 @@ use Rattle.run.specs.declared.order.Command.TheVariants.{End, Wrong}
 use Rattle.claims.specs.OrderFaults.{kind, HasFault, unknown, cut, switch, misplaced, no_end, after_end}
 use Rattle.claims.specs.OrderFaults.{Faulty, at_command, at_length, behind_end}
 use Rattle.claims.specs.CommandBytesLaws.{coded}
-use Rattle.claims.specs.BytesExactly.{whole_length, command_there}
+use Rattle.claims.proofs.BytesExactly.{whole_length, command_there}
 use Rattle.claims.specs.MisplacedLaws.{misplaced_number, misplaced_fault, no_fault}
-use Rattle.claims.specs.SoundLaws.{Comes, comes}
+use Rattle.claims.proofs.SoundLaws.{Comes, comes}
 
 pub not_known : (code : ℕ) → (code ≡ 0) ⊎ (9 < code) → is_known code ≡ false
 unfolding is_known

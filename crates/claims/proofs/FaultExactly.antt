@@ -23,11 +23,11 @@ use Rattle.run.specs.declared.order.Read.TheVariants.{Refused}
 use Rattle.claims.specs.OrderFaults.{kind, Sound, HasFault, unknown, cut, switch, misplaced, no_end, after_end}
 use Rattle.claims.specs.OrderFaults.{Faulty, at_command, at_length, behind_end}
 use Rattle.claims.specs.CommandBytesLaws.{operand_at, encodes}
-use Rattle.claims.specs.BytesExactly.{split_operand}
+use Rattle.claims.proofs.BytesExactly.{split_operand}
 use Rattle.claims.specs.MisplacedLaws.{misplaced_number, fault_misplaced, in_place}
 use Rattle.claims.specs.OrderFaults.{Misplaced, repeated, after_begin, second_begin, early_advance, missing, early_end}
-use Rattle.claims.specs.FaultReadLaws.{not_known, bytes_faulty}
-use Rattle.claims.specs.SoundLaws.{Came, came}
+use Rattle.claims.proofs.FaultReadLaws.{not_known, bytes_faulty}
+use Rattle.claims.proofs.SoundLaws.{Came, came}
 use Rattle.claims.specs.RefusedExactly.{refused_exactly}
 
 -- ---- from the reader's fault to that of the bytes

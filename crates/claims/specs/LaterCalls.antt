@@ -1,5 +1,5 @@
 -- 01, "What the promise has to rule out": "Stepping on the first call and afterwards only raising the count". Such an advance is not the
--- one that the contract of `advance` promises.
+-- one that the contract of `advance` promises (`counting_differs` in proofs/LaterCalls.antt).
 use Rattle.std.specs.Prelude.{ℕ, ◌+◌, cond, List, [], ◌∷◌, ◌≡◌, eqb, Float, take}
 use Rattle.vectors.specs.Powers.{one}
 use Rattle.run.specs.declared.settings.Settings.{Settings}

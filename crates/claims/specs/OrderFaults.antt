@@ -1,5 +1,5 @@
 -- 01, "From the input", 1 to 4, and "Reader": why an order is refused with a number at a position, said of the bytes (`HasFault`) and of the
--- reader's steps (`Faulty`). Definitions only; FaultExactly and RefusedExactly have the theorems.
+-- reader's steps (`Faulty`). Definitions only; proofs/FaultExactly and specs/RefusedExactly have the theorems.
 use Rattle.std.specs.Prelude.{ℕ, suc, ◌+◌, ◌<◌, ◌≤◌, cond, List, [], ◌∷◌, ◌++◌, ◌⊎◌, ◌≡◌, eqb, length}
 use Rattle.run.specs.Bytes.{byte_at}
 use Rattle.run.specs.Order.{operand_size, command_at, next_at, no_places, noted, command_fault}

@@ -1,4 +1,4 @@
--- What a run prints gives its floats back, with no condition: each frame from its line, the time and the mass of an outcome from their digits.
+-- The floats that a text of digits and a frame's line stand for. That what a run prints gives its floats back is proved in proofs/RunRecovered.antt.
 use Rattle.std.specs.Prelude.{ℕ, ◌+◌, ◌*◌, List, Float, take, drop}
 use Rattle.std.specs.Float.{binary64}
 use Rattle.std.specs.Float.Ieee.{of_bits}

@@ -1,4 +1,5 @@
--- simulate.rs, lines 17 to 50, transcribed; as long as no attempt has broken the run, 01's plain run is that loop: `simulate_is`.
+-- simulate.rs, lines 17 to 50, transcribed; as long as no attempt has broken the run, 01's plain run is that loop: `simulate_is`,
+-- in proofs/Simulate.antt.
 -- Left out: lines 15, 33 to 41 and 47 (wall clock and logger), and 52 to 61, which hand the variables on. The count is an i32 in the file and a
 -- whole number here. Where 01 breaks the run, the file panics for a NaN in the field (state_builder.rs, line 36) and goes on for any other.
 use Prim.Native.Nat.{ℕ, zero, suc, ◌+◌}

@@ -1,3 +1,3 @@
 #![tactic(auto)]
 
-// Theorems about runs and orders that no code needs: specs/ has them.
+// Theorems about runs and orders that no code needs: specs/ has the definitions, specs/ and proofs/ the theorems.

@@ -75,7 +75,7 @@ correction_slot = 20
 abbrev pub slot_count : ℕ
 slot_count = 21
 
--- with n points, the slots are numbers slotsStart × n to slots_end × n of work memory
+-- with n points, the slots are numbers slots_start × n to slots_end × n of work memory
 abbrev pub slots_start : ℕ
 slots_start = 8
 

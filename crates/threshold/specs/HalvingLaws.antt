@@ -1,4 +1,4 @@
--- Laws of the halvings: the ways of one, and what they keep.
+-- Laws of the halvings: the ways of one; and what they keep (`Kept`), which proofs/HalvingKept.antt proves.
 use Rattle.std.specs.Prelude.{◌≡◌, ℕ, suc, ◌+◌, ◌-◌, ◌*◌, ◌^◌, ◌<◌, ◌≤◌, Bool, true, false, cond, ◌==◌, ◌≢◌}
 use Rattle.std.proofs.Math.Path.{sym, ap}
 use Rattle.std.proofs.Common.{◌∙◌, eq-eqb, ne_eqb}

@@ -49,7 +49,7 @@ small_flip (fin b m e) s n d t =
     ] in
     (refl, closest_mono (m * up e) (down e) (n * up d) (down d) (down_pos e) (down_pos d) h)
 
--- ---- 256 × a is scaleDigits / 2^43
+-- ---- 256 × a is scale_digits / 2^43
 abbrev scale_digits : ℕ
 scale_digits = 3248660424278399
 

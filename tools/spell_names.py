@@ -1,5 +1,5 @@
 #!/usr/bin/env python3
-"""Brings the repository's own definitions and lemmas to today's spelling, after /opt/rattle/port/port.py.
+"""Brings the repository's own definitions and lemmas to today's spelling, after the port.py of the kit.
 
 usage: python3 tools/spell_names.py [--look]      at the top of the repository; --look writes nothing and prints the names
 

@@ -4,7 +4,7 @@ use Rattle.std.specs.Prelude.{◌≡◌, ℕ, zero, suc, ◌+◌, ◌≤◌, Boo
 use Rattle.std.proofs.Math.Path.{refl}
 use Rattle.std.proofs.Common.{ap, ◌∙◌, inl, inr, arith}
 use Rattle.std.proofs.lemmas.Bool.{false≢true}
-use Rattle.std.proofs.Math.Option.{Option, none, some}
+use Rattle.std.specs.Prelude.{Option, None, Some}
 use Rattle.vectors.specs.MemoryLaws.{side}
 use Rattle.run.specs.Calls.{Stop, record_of, machine_of, with_state, with_frames, refused_begin, accepted, AfterBegin, begin_refusal, begin_of, AfterAdvance, left_by, advance_refusal, advance_of, is_full, attempts_from}
 use Rattle.run.specs.Outcome.{Outcome, collapse, broke, timeout, spent}
@@ -12,8 +12,7 @@ use Rattle.run.specs.PlainRun.{Machine, option, start, outcome_of, attempt}
 use Rattle.run.specs.Tally.{refused, full, ran}
 use Rattle.run.specs.declared.settings.Settings.{Settings}
 use Rattle.run.specs.declared.settings.Record.{Record}
-use Rattle.run.specs.declared.order.Read.{Read}
-use Rattle.run.specs.declared.order.Read.TheVariants.{Refused, Order}
+use Rattle.run.specs.Order.{Read, Refused, Order}
 use Rattle.run.specs.Order.{read_order}
 use Rattle.run.specs.Report.{no_room_for_text}
 use Rattle.threshold.specs.Search.{Sought, refused_search, found, search_of}
@@ -103,8 +102,8 @@ answered :
     {A : Type 0} (number : A → ℕ) (xs numbers : List ℕ) (o : Option ℕ) (refusing : ℕ → A) (other : A) →
     ((n : ℕ) → among xs n ≡ true → among numbers (number (refusing n)) ≡ true) → among numbers (number other) ≡ true →
     refusal_among xs o ≡ true → among numbers (number (option o refusing other)) ≡ true
-answered number xs numbers none refusing other f g e = g
-answered number xs numbers (some n) refusing other f g e = f n e
+answered number xs numbers None refusing other f g e = g
+answered number xs numbers (Some n) refusing other f g e = f n e
 
 module _ (slice memory work frames : List Float) where
   begun_number : (s : Settings) → among (0 ∷ no_record_number ∷ begin_refusals) (began_number (begin_of s memory work frames).answer) ≡ true
@@ -130,8 +129,8 @@ module _ (slice memory work frames : List Float) where
           among (0 ∷ no_record_number ∷ begin_refusals)
           (option o (λ s. began_call slice (begin_of s memory work frames)) (no_record slice memory frames)).number
           ≡ true
-      go none = refl
-      go (some s) = begun_number s
+      go None = refl
+      go (Some s) = begun_number s
 
   advanced_number : (budget : ℕ) (r : Record) →
       among (no_record_number ∷ (advance_refusals ++ attempts_numbers)) (told_of (advance_of r memory work frames budget).reply).number ≡ true
@@ -157,8 +156,8 @@ module _ (slice memory work frames : List Float) where
           among (no_record_number ∷ (advance_refusals ++ attempts_numbers))
           (option o (λ r. advanced_call slice (advance_of r memory work frames budget)) (no_record slice memory frames)).number
           ≡ true
-      go none = refl
-      go (some r) = advanced_number budget r
+      go None = refl
+      go (Some r) = advanced_number budget r
 
 -- the search: 0, no record, a result slice too short, or a refusal that 02 lists for it
 abbrev pub search_numbers : List ℕ
@@ -181,9 +180,9 @@ search_number slice low high halvings unit budget state work result = go (settin
         among search_numbers
         (option o (λ s. cond b (after_search short_result_number result) (sought_call (search_of unit s budget state work low high halvings) result)) (after_search no_record_number result)).number
         ≡ true
-    go none b = refl
-    go (some s) true = refl
-    go (some s) false = sought_number (search_of unit s budget state work low high halvings) result (search_refusals_lem unit s budget state work low high halvings)
+    go None b = refl
+    go (Some s) true = refl
+    go (Some s) false = sought_number (search_of unit s budget state work low high halvings) result (search_refusals_lem unit s budget state work low high halvings)
 
 -- the spelling: 0, or a refusal that 02 lists for it
 abbrev pub spell_numbers : List ℕ

@@ -1,17 +1,13 @@
 -- How a run's record lies in a slice of twelve numbers: 0 amplitude, 1 level, 2 max time, 3 interval, 4 dx level, 5 skip, 6 time, 7 steps,
 -- 8 broken mark, and of the last call's answer 9 frames, 10 attempts, 11 mass. Definitions only.
 use Rattle.std.specs.Prelude.{ℕ, cond, List, [], ◌∷◌, ◌++◌, length, nat_le, slice_index_or, Float}
-use Rattle.std.proofs.Math.Option.{Option, none, some}
+use Rattle.std.specs.Prelude.{Option, None, Some}
 use Rattle.std.specs.Float.{nan}
 use Rattle.vectors.specs.Constants.{whole}
 use Rattle.run.specs.PlainRun.{option}
 use Rattle.run.specs.declared.settings.Settings.{Settings}
 use Rattle.run.specs.declared.settings.Record.{Record}
 use Rattle.capi.specs.Numbers.{whole_in, switch_in, bit}
-use Rattle.capi.specs.declared.layout.Asked.{Asked}
-use Rattle.capi.specs.declared.layout.Asked.TheVariants as asked
-use Rattle.capi.specs.declared.layout.Held.{Held}
-use Rattle.capi.specs.declared.layout.Held.TheVariants as held
 
 -- "settings" (01, "Plain run"): two whole numbers and a switch among them
 unfoldable pub settings_of : (amplitude level max_time interval dx_level skip : Float) → Option Settings
@@ -19,16 +15,16 @@ settings_of amplitude level max_time interval dx_level skip =
     option (whole_in level)
     (λ l. option (whole_in dx_level)
     (λ d. option (switch_in skip)
-    (λ s. some (record { amplitude = amplitude; level = l; max_time = max_time; interval = interval; dx_level = d; skip = s }))
-    none) none) none
+    (λ s. Some (record { amplitude = amplitude; level = l; max_time = max_time; interval = interval; dx_level = d; skip = s }))
+    None) None) None
 
 -- "a record: settings .., time, steps, broken mark"
 unfoldable pub record_of : Settings → (time steps broken : Float) → Option Record
 record_of settings time steps broken =
     option (whole_in steps)
     (λ n. option (switch_in broken)
-    (λ b. some (record { settings = settings; time = time; steps = n; broken = b }))
-    none) none
+    (λ b. Some (record { settings = settings; time = time; steps = n; broken = b }))
+    None) None
 
 -- the number at a place
 abbrev pub at : List Float → ℕ → Float
@@ -39,10 +35,10 @@ unfoldable pub settings_in : List Float → Option Settings
 settings_in slice =
     cond (nat_le 12 (length slice))
     (settings_of (at slice 0) (at slice 1) (at slice 2) (at slice 3) (at slice 4) (at slice 5))
-    none
+    None
 
 unfoldable pub record_in : List Float → Option Record
-record_in slice = option (settings_in slice) (λ s. record_of s (at slice 6) (at slice 7) (at slice 8)) none
+record_in slice = option (settings_in slice) (λ s. record_of s (at slice 6) (at slice 7) (at slice 8)) None
 
 -- the numbers of a record and of a call's answer
 unfoldable pub settings_out : Settings → List Float
@@ -55,12 +51,3 @@ progress_out r frames attempts mass =
 
 unfoldable pub laid_out : Record → (frames attempts : ℕ) → (mass : Float) → List Float
 laid_out r frames attempts mass = settings_out r.settings ++ progress_out r frames attempts mass
-
--- what the code's answers hold
-abbrev pub asked_of : Asked → Option Settings
-asked_of asked.Not = none
-asked_of (asked.Is s) = some s
-
-abbrev pub held_of : Held → Option Record
-held_of held.Not = none
-held_of (held.Is r) = some r

@@ -1,6 +1,6 @@
 -- Laws of the record's layout: what the code reads and stores, and that what is laid out is read back as the same record.
 use Rattle.std.specs.Prelude.{◌≡◌, ℕ, ◌+◌, ◌<◌, ◌≤◌, Bool, true, false, cond, List, [], ◌∷◌, length, ◌≢◌, nat_le, slice_set, refl, Float}
-use Rattle.std.proofs.Math.Option.{Option, none, some}
+use Rattle.std.specs.Prelude.{Option, None, Some}
 use Rattle.std.proofs.Common.{arith, leb-true, le-leb}
 use Rattle.std.proofs.lemmas.Bool.{lt-leb}
 use Rattle.vectors.specs.Memory.{put}
@@ -15,38 +15,38 @@ use Rattle.capi.specs.Layout.{at, settings_of, record_of, settings_in, record_in
 
 -- ---- reading
 module _ (amplitude level max_time interval dx_level skip : Float) where
-  pub settings_no_level : whole_in level ≡ none → none ≡ settings_of amplitude level max_time interval dx_level skip
+  pub settings_no_level : whole_in level ≡ None → None ≡ settings_of amplitude level max_time interval dx_level skip
   unfolding settings_of
   settings_no_level e = rw e
 
-  pub settings_no_dx : {l : ℕ} → whole_in level ≡ some l → whole_in dx_level ≡ none → none ≡ settings_of amplitude level max_time interval dx_level skip
+  pub settings_no_dx : {l : ℕ} → whole_in level ≡ Some l → whole_in dx_level ≡ None → None ≡ settings_of amplitude level max_time interval dx_level skip
   unfolding settings_of
   settings_no_dx e f = rw (e, f)
 
-  pub settings_no_skip : {l d : ℕ} → whole_in level ≡ some l → whole_in dx_level ≡ some d → switch_in skip ≡ none → none ≡ settings_of amplitude level max_time interval dx_level skip
+  pub settings_no_skip : {l d : ℕ} → whole_in level ≡ Some l → whole_in dx_level ≡ Some d → switch_in skip ≡ None → None ≡ settings_of amplitude level max_time interval dx_level skip
   unfolding settings_of
   settings_no_skip e f g = rw (e, f, g)
 
-  pub settings_are : {l d : ℕ} {s : Bool} → whole_in level ≡ some l → whole_in dx_level ≡ some d → switch_in skip ≡ some s
-      → some (record { amplitude = amplitude; level = l; max_time = max_time; interval = interval; dx_level = d; skip = s }) ≡ settings_of amplitude level max_time interval dx_level skip
+  pub settings_are : {l d : ℕ} {s : Bool} → whole_in level ≡ Some l → whole_in dx_level ≡ Some d → switch_in skip ≡ Some s
+      → Some (record { amplitude = amplitude; level = l; max_time = max_time; interval = interval; dx_level = d; skip = s }) ≡ settings_of amplitude level max_time interval dx_level skip
   unfolding settings_of
   settings_are e f g = rw (e, f, g)
 
 module _ (settings : Settings) (time steps broken : Float) where
-  pub record_no_steps : whole_in steps ≡ none → none ≡ record_of settings time steps broken
+  pub record_no_steps : whole_in steps ≡ None → None ≡ record_of settings time steps broken
   unfolding record_of
   record_no_steps e = rw e
 
-  pub record_no_mark : {n : ℕ} → whole_in steps ≡ some n → switch_in broken ≡ none → none ≡ record_of settings time steps broken
+  pub record_no_mark : {n : ℕ} → whole_in steps ≡ Some n → switch_in broken ≡ None → None ≡ record_of settings time steps broken
   unfolding record_of
   record_no_mark e f = rw (e, f)
 
-  pub record_is : {n : ℕ} {b : Bool} → whole_in steps ≡ some n → switch_in broken ≡ some b
-      → some (record { settings = settings; time = time; steps = n; broken = b }) ≡ record_of settings time steps broken
+  pub record_is : {n : ℕ} {b : Bool} → whole_in steps ≡ Some n → switch_in broken ≡ Some b
+      → Some (record { settings = settings; time = time; steps = n; broken = b }) ≡ record_of settings time steps broken
   unfolding record_of
   record_is e f = rw (e, f)
 
-pub settings_short : (slice : List Float) → length slice < 12 → none ≡ settings_in slice
+pub settings_short : (slice : List Float) → length slice < 12 → None ≡ settings_in slice
 unfolding settings_in
 settings_short slice h = rw (lt-leb 12 (length slice) h)
 
@@ -55,35 +55,35 @@ pub settings_held : (slice : List Float) → 12 ≤ length slice
 unfolding settings_in
 settings_held slice h = rw (le-leb 12 (length slice) h)
 
-never : {A : Type 0} {a : A} → none ≢ some a
+never : {A : Type 0} {a : A} → None ≢ Some a
 never e = let z : ◌≡◌ {A = ℕ} 0 1 = cc in omega arith
 
-pub settings_long : (slice : List Float) (s : Settings) → settings_in slice ≡ some s → 12 ≤ length slice
+pub settings_long : (slice : List Float) (s : Settings) → settings_in slice ≡ Some s → 12 ≤ length slice
 unfolding settings_in
 settings_long slice s e = go (nat_le 12 (length slice)) (leb-true 12 (length slice)) e
   where
     go : (b : Bool) → (b ≡ true → 12 ≤ length slice)
-        → cond b (settings_of (at slice 0) (at slice 1) (at slice 2) (at slice 3) (at slice 4) (at slice 5)) none ≡ some s → 12 ≤ length slice
+        → cond b (settings_of (at slice 0) (at slice 1) (at slice 2) (at slice 3) (at slice 4) (at slice 5)) None ≡ Some s → 12 ≤ length slice
     go true h e = h refl
     go false h e = absurd (never e)
 
-pub record_none : (slice : List Float) → settings_in slice ≡ none → none ≡ record_in slice
+pub record_none : (slice : List Float) → settings_in slice ≡ None → None ≡ record_in slice
 unfolding record_in
 record_none slice e = rw e
 
-pub record_held : (slice : List Float) (s : Settings) → settings_in slice ≡ some s
+pub record_held : (slice : List Float) (s : Settings) → settings_in slice ≡ Some s
     → record_of s (at slice 6) (at slice 7) (at slice 8) ≡ record_in slice
 unfolding record_in
 record_held slice s e = rw e
 
-pub record_long : (slice : List Float) (r : Record) → record_in slice ≡ some r → 12 ≤ length slice
+pub record_long : (slice : List Float) (r : Record) → record_in slice ≡ Some r → 12 ≤ length slice
 unfolding record_in
 record_long slice r e = go (settings_in slice) (settings_long slice) e
   where
-    go : (o : Option Settings) → ((s : Settings) → o ≡ some s → 12 ≤ length slice)
-        → option o (λ s. record_of s (at slice 6) (at slice 7) (at slice 8)) none ≡ some r → 12 ≤ length slice
-    go none h e = absurd (never e)
-    go (some s) h e = h s refl
+    go : (o : Option Settings) → ((s : Settings) → o ≡ Some s → 12 ≤ length slice)
+        → option o (λ s. record_of s (at slice 6) (at slice 7) (at slice 8)) None ≡ Some r → 12 ≤ length slice
+    go None h e = absurd (never e)
+    go (Some s) h e = h s refl
 
 -- ---- storing
 -- four stores, one behind the other, and six
@@ -135,7 +135,7 @@ pub record Fits (r : Record) : Type 0 where
   pub steps : r.steps < 4294967296
 
 pub read_back : (r : Record) (frames attempts : ℕ) (mass : Float) (slice : List Float) → Fits r → 12 ≤ length slice
-    → record_in (put 0 (laid_out r frames attempts mass) slice) ≡ some r
+    → record_in (put 0 (laid_out r frames attempts mass) slice) ≡ Some r
 unfolding record_in settings_in settings_of record_of laid_out settings_out progress_out put
 read_back r frames attempts mass slice fit h =
     let s = r.settings in

@@ -1,14 +1,10 @@
 -- Which whole number and which switch a float of a record's slice stands for. Definitions only.
 use Rattle.std.specs.Prelude.{ℕ, Bool, true, false, cond, pos, Float}
-use Rattle.std.proofs.Math.Option.{Option, none, some}
+use Rattle.std.specs.Prelude.{Option, None, Some}
 use Rattle.std.specs.Float.{fin}
 use Rattle.std.specs.Float.Ieee.{eq, to_unsigned}
 use Rattle.vectors.specs.Constants.{whole}
 use Rattle.vectors.specs.Powers.{one}
-use Rattle.capi.specs.declared.numbers.Whole.{Whole}
-use Rattle.capi.specs.declared.numbers.Whole.TheVariants as whole_is
-use Rattle.capi.specs.declared.numbers.Switch.{Switch}
-use Rattle.capi.specs.declared.numbers.Switch.TheVariants as switch-is
 
 -- 0 × 2^0
 abbrev pub zero : Float
@@ -17,21 +13,12 @@ zero = fin false 0 (pos 0)
 -- the whole number of 32 bits that a float equals, if there is one: `to_unsigned 32` takes a fraction off and any number outside the range to
 -- its nearest end, so that only a whole number of the range comes back
 unfoldable pub whole_in : Float → Option ℕ
-whole_in x = cond (eq x (whole (to_unsigned 32 x))) (some (to_unsigned 32 x)) none
+whole_in x = cond (eq x (whole (to_unsigned 32 x))) (Some (to_unsigned 32 x)) None
 
 -- "skip u8 (0 or 1)" (01, "Orders"): no and yes
 unfoldable pub switch_in : Float → Option Bool
-switch_in x = cond (eq x zero) (some false) (cond (eq x one) (some true) none)
+switch_in x = cond (eq x zero) (Some false) (cond (eq x one) (Some true) None)
 
 -- a yes or no as a float
 unfoldable pub bit : Bool → Float
 bit b = cond b one zero
-
--- what the code's answers hold
-abbrev pub whole_of : Whole → Option ℕ
-whole_of whole_is.Not = none
-whole_of (whole_is.Is n) = some n
-
-abbrev pub switch_of : Switch → Option Bool
-switch_of switch-is.Not = none
-switch_of (switch-is.Is b) = some b

@@ -2,7 +2,7 @@
 use Rattle.std.specs.Prelude.{◌≡◌, ℕ, ◌+◌, ◌*◌, ◌/◌, ◌<◌, ◌≤◌, min, Bool, true, false, cond, ◌&&◌, T, ltb, pos, ◌==◌, ◌≢◌, nat_lt, refl, Float}
 use Rattle.std.proofs.Common.{sym, ap, ◌∙◌, true≢false, div-lt_iff_lt-mul, le-div_iff_mul-le, arith, ltb-true, ltb-false, lt-ltb, eq-eqb, ne_eqb}
 use Rattle.std.proofs.lemmas.Bool.{false≢true}
-use Rattle.std.proofs.Math.Option.{none, some}
+use Rattle.std.specs.Prelude.{None, Some}
 use Rattle.std.specs.Float.{nan, inf, fin, binary64}
 use Rattle.std.specs.Float.Ieee.{up, down, lt, eq, round, of_int, to_unsigned}
 use Rattle.std.specs.Float.Ieee.Back.{unsigned_back}
@@ -13,6 +13,7 @@ use Rattle.run.specs.OrderLaws.{both}
 use Rattle.vectors.proofs.Floats.{whole_in_lem, whole_value}
 use Rattle.vectors.specs.Constants.{whole}
 use Rattle.vectors.specs.Powers.{one}
+use Rattle.std.specs.Int.{from_bool}
 use Rattle.capi.specs.Numbers.{zero, whole_in, switch_in, bit}
 
 -- ---- switches
@@ -24,19 +25,19 @@ pub bit_no : (b : Bool) → b ≡ false → zero ≡ bit b
 unfolding bit
 bit_no b e = ap (λ (x : Bool). cond x one zero) (sym e)
 
-pub switch_no : (x : Float) → eq x zero ≡ true → some false ≡ switch_in x
+pub switch_no : (x : Float) → eq x zero ≡ true → Some false ≡ switch_in x
 unfolding switch_in
 switch_no x e = rw e
 
-pub switch_yes : (x : Float) → eq x zero ≡ false → eq x one ≡ true → some true ≡ switch_in x
+pub switch_yes : (x : Float) → eq x zero ≡ false → eq x one ≡ true → Some true ≡ switch_in x
 unfolding switch_in
 switch_yes x e f = rw (e, f)
 
-pub switch_none : (x : Float) → eq x zero ≡ false → eq x one ≡ false → none ≡ switch_in x
+pub switch_none : (x : Float) → eq x zero ≡ false → eq x one ≡ false → None ≡ switch_in x
 unfolding switch_in
 switch_none x e f = rw (e, f)
 
-pub switch_back : (b : Bool) → switch_in (bit b) ≡ some b
+pub switch_back : (b : Bool) → switch_in (bit b) ≡ Some b
 unfolding switch_in bit eq
 switch_back true = refl
 switch_back false = refl
@@ -89,17 +90,17 @@ pub cut_asks : (x : Float) → in_range x ≡ true → T (lt (fin true 1 (pos 0)
 cut_asks x r =
     (holds (lt (fin true 1 (pos 0)) x) (ends x r).0, holds (lt x (fin false 1 (pos 64))) (under_64 x (ends x r).1))
 
-pub whole_is : (x : Float) (n : ℕ) → n ≡ to_unsigned 32 x → eq x (whole n) ≡ true → some n ≡ whole_in x
+pub whole_is : (x : Float) (n : ℕ) → n ≡ to_unsigned 32 x → eq x (whole n) ≡ true → Some n ≡ whole_in x
 unfolding whole_in
 whole_is x n e f =
     let g : eq x (whole (to_unsigned 32 x)) ≡ true = ap (λ (k : ℕ). eq x (whole k)) (sym e) ∙ f in
-    ap some e ∙ ap (λ (b : Bool). cond b (some (to_unsigned 32 x)) none) (sym g)
+    ap Some e ∙ ap (λ (b : Bool). cond b (Some (to_unsigned 32 x)) None) (sym g)
 
-pub whole_not : (x : Float) (n : ℕ) → n ≡ to_unsigned 32 x → eq x (whole n) ≡ false → none ≡ whole_in x
+pub whole_not : (x : Float) (n : ℕ) → n ≡ to_unsigned 32 x → eq x (whole n) ≡ false → None ≡ whole_in x
 unfolding whole_in
 whole_not x n e f =
     let g : eq x (whole (to_unsigned 32 x)) ≡ false = ap (λ (k : ℕ). eq x (whole k)) (sym e) ∙ f in
-    ap (λ (b : Bool). cond b (some (to_unsigned 32 x)) none) (sym g)
+    ap (λ (b : Bool). cond b (Some (to_unsigned 32 x)) None) (sym g)
 
 -- ---- out of range nothing equals the range's nearest end
 least : whole 0 ≡ zero
@@ -146,7 +147,7 @@ out_eq (fin false m e) r =
     ∙ ap (eq (fin false m e)) most
     ∙ unlike (m * up e * 1) (4294967295 * down e) _ (λ z. omega arith)
 
-pub whole_out : (x : Float) → in_range x ≡ false → none ≡ whole_in x
+pub whole_out : (x : Float) → in_range x ≡ false → None ≡ whole_in x
 whole_out x r = whole_not x (to_unsigned 32 x) refl (out_eq x r)
 
 -- ---- a whole number, as a float and back
@@ -157,7 +158,12 @@ eq_self (inf s) n v = absurd v
 eq_self (fin true m e) n v = absurd (true≢false v.0)
 eq_self (fin false m e) n v = rw (eq-eqb (m * up e * down e) (m * up e * down e) refl)
 
-pub whole_back : (n : ℕ) → n < 4294967296 → whole_in (whole n) ≡ some n
+pub whole_back : (n : ℕ) → n < 4294967296 → whole_in (whole n) ≡ Some n
 whole_back n h =
     let back : to_unsigned 32 (whole n) ≡ n = (unsigned_back binary64 32 n (whole_in_lem n (omega arith)) h).1 in
     sym (whole_is (whole n) n (sym back) (eq_self (whole n) n (whole_value n (omega arith))))
+
+pub bit_is : (b : Bool) → of_int binary64 (pos (from_bool b)) ≡ bit b
+unfolding of_int round bit
+bit_is true = refl
+bit_is false = refl

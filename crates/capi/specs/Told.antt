@@ -1,6 +1,6 @@
 -- What `collapse_begin` and `collapse_advance` answer and leave in the record's slice, in state and frame memory: begin and advance of the
 -- crate run, between reading the slice and laying it out again. Definitions only.
-use Rattle.std.specs.Prelude.{ℕ, Bool, true, false, cond, List, Float}
+use Rattle.std.specs.Prelude.{ℕ, List, Float, None, Some}
 use Rattle.vectors.specs.Memory.{put}
 use Rattle.run.specs.Calls.{Began, refused_begin, accepted, AfterBegin, AfterAdvance, begin_of, begin_uses, advance_of, advance_uses}
 use Rattle.run.specs.Outcome.{collapse, broke, timeout, spent}
@@ -9,6 +9,7 @@ use Rattle.run.specs.Tally.{Reply, refused, full, ran}
 use Rattle.run.specs.declared.settings.Record.{Record}
 use Rattle.capi.specs.Numbers.{zero}
 use Rattle.capi.specs.Layout.{settings_in, record_in, laid_out}
+use Rattle.capi.specs.declared.layout.LastCall.{LastCall}
 use Rattle.capi.specs.declared.told.Told.{Told}
 
 -- Numbers of our own (docs/DECISIONS.md): below 100 every number is a document's, and 100 is run's, no room for a text.
@@ -46,6 +47,9 @@ after_call number slice memory frames = record { number = number; slice = slice;
 unfoldable pub no_record : (slice memory frames : List Float) → AfterCall
 no_record slice memory frames = after_call no_record_number slice memory frames
 
+abbrev last_call : (frames attempts : ℕ) (mass : Float) → LastCall
+last_call frames attempts mass = record { frames = frames; attempts = attempts; mass = mass }
+
 -- ---- begin
 -- 0, or 01's number of a refusal
 unfoldable pub began_number : Began → ℕ
@@ -71,20 +75,20 @@ begin_call_uses slice state work frames = option (settings_in slice) (λ s. begi
 -- ---- advance
 -- 01's number of a refusal, which leaves the slice; full, with its attempts, and the outcomes, collapse with its mass, have numbers of
 -- our own and are laid out with how many frames were written
-abbrev pub told : (number : ℕ) (lays : Bool) (frames attempts : ℕ) (mass : Float) → Told
-told number lays frames attempts mass = record { number = number; lays = lays; frames = frames; attempts = attempts; mass = mass }
+abbrev pub told : (number frames attempts : ℕ) (mass : Float) → Told
+told number frames attempts mass = record { number = number; last = Some (last_call frames attempts mass) }
 
 unfoldable pub told_of : Reply → Told
-told_of (refused n) = told n false 0 0 zero
-told_of (full a k) = told full_number true k a zero
-told_of (ran (collapse m) k) = told collapse_number true k 0 m
-told_of (ran broke k) = told broken_number true k 0 zero
-told_of (ran timeout k) = told timeout_number true k 0 zero
-told_of (ran spent k) = told spent_number true k 0 zero
+told_of (refused n) = record { number = n; last = None }
+told_of (full a k) = told full_number k a zero
+told_of (ran (collapse m) k) = told collapse_number k 0 m
+told_of (ran broke k) = told broken_number k 0 zero
+told_of (ran timeout k) = told timeout_number k 0 zero
+told_of (ran spent k) = told spent_number k 0 zero
 
 -- the slice that held the record
 unfoldable pub told_slice : Told → Record → List Float → List Float
-told_slice t r slice = cond t.lays (put 0 (laid_out r t.frames t.attempts t.mass) slice) slice
+told_slice t r slice = option t.last (λ last. put 0 (laid_out r last.frames last.attempts last.mass) slice) slice
 
 unfoldable pub advanced_call : List Float → AfterAdvance → AfterCall
 advanced_call slice d = after_call (told_of d.reply).number (told_slice (told_of d.reply) d.record' slice) d.memory d.frames

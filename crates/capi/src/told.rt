@@ -1,12 +1,15 @@
 // What a call answers: its number, and its record laid out in the slice unless it was refused.
 ghost use Rattle.std.specs.Prelude.{◌≡◌, ◌≤◌, length};
 ghost use Rattle.run.specs.Answers.{reply_of, began_of};
+ghost use Rattle.run.specs.Refusal.{number_of};
 ghost use Rattle.capi.specs.Told.{told, told_of, told_slice, began_number, began_slice};
 
-use crate::layout::lay_out;
+use crate::layout::{LastCall, RECORD_LENGTH, laid_out};
+use run::outcome::Outcome;
+use run::refusal::Refusal;
 use run::simulate::{Advanced, Answer, Begun};
 
-// The numbers of our own; every other is document 01's.
+// The numbers of our own; every other is document 01's. Numbers and no enum, since C's callers read them (include/collapse.h).
 pub(crate) const NO_RECORD: u32 = 101;
 
 const FULL: u32 = 110;
@@ -19,68 +22,80 @@ const TIMEOUT: u32 = 113;
 
 const SPENT: u32 = 114;
 
-// An advance's number, whether its record is laid out, and what is laid out beside it.
+// An advance's number, and what is laid out beside its record unless it was refused.
 #[derive(Clone, Copy)]
 pub(crate) struct Told {
     pub number: u32,
-    pub lays: bool,
-    pub frames: usize,
-    pub attempts: u32,
-    pub mass: f64,
+    pub last: Option<LastCall>,
 }
 
-// What an answer tells, from its parts.
-fn tells(number: u32, lays: bool, frames: usize, attempts: u32, mass: f64) -> Told
-    ensures { result ≡ told number lays frames attempts mass }
+fn refusal_number(refusal: Refusal) -> u32
+    ensures { result ≡ number_of refusal }
+{
+    u32::from(u8::from(refusal))
+}
+
+// What an answer that lays a record out tells, from its parts.
+fn tells(number: u32, frames: usize, attempts: u32, mass: f64) -> Told
+    ensures { result ≡ told number frames attempts mass }
 {
     Told {
-        number: number,
-        lays: lays,
-        frames: frames,
-        attempts: attempts,
-        mass: mass,
+        number,
+        last: Some(LastCall {
+            frames,
+            attempts,
+            mass,
+        }),
     }
 }
 
 // What each answer tells.
-fn told_of(answer: Answer) -> Told
+#[tactic(auto, unfolding(crate::specs::Told::told_of))]
+fn told_of(answer: Result<Answer, Refusal>) -> Told
     ensures { result ≡ told_of (reply_of answer) }
 {
     match answer {
-        Answer::Refused(n) => tells(n as u32, false, 0, 0, 0.0),
-        Answer::Full(made, count) => tells(FULL, true, count, made, 0.0),
-        Answer::Collapse(mass, count) => tells(COLLAPSE, true, count, 0, mass),
-        Answer::Broken(count) => tells(BROKEN, true, count, 0, 0.0),
-        Answer::Timeout(count) => tells(TIMEOUT, true, count, 0, 0.0),
-        Answer::Spent(count) => tells(SPENT, true, count, 0, 0.0),
+        Err(refusal) => Told {
+            number: refusal_number(refusal),
+            last: None,
+        },
+        Ok(Answer::Full(made, count)) => tells(FULL, count, made, 0.0),
+        Ok(Answer::Ran(Outcome::Collapse(mass), count)) => tells(COLLAPSE, count, 0, mass),
+        Ok(Answer::Ran(Outcome::Broken, count)) => tells(BROKEN, count, 0, 0.0),
+        Ok(Answer::Ran(Outcome::Timeout, count)) => tells(TIMEOUT, count, 0, 0.0),
+        Ok(Answer::Ran(Outcome::Spent, count)) => tells(SPENT, count, 0, 0.0),
     }
 }
 
 // An advance's number, its record laid out unless it was refused.
+#[tactic(auto, unfolding(crate::specs::Told::told_slice, vectors::specs::Memory::put))]
 pub(crate) fn tell_advanced(advanced: Advanced, numbers: &mut [f64]) -> u32
     requires { 12 ≤ length numbers.old }
     ensures { (result ≡ (told_of (reply_of advanced.answer)).number)
         × (numbers.new ≡ told_slice (told_of (reply_of advanced.answer)) advanced.record numbers.old) }
 {
-    let answer = advanced.answer;
-    let run = advanced.record;
-    let told = told_of(answer);
-    if told.lays {
-        lay_out(run, told.frames, told.attempts, told.mass, numbers);
-        return told.number;
+    let told = told_of(advanced.answer);
+    if let Some(last) = told.last {
+        numbers[..RECORD_LENGTH].copy_from_slice(&laid_out(advanced.record, last));
     }
     told.number
 }
 
 // A begin's number, its record laid out unless it was refused.
-pub(crate) fn tell_begun(begun: Begun, numbers: &mut [f64]) -> u32
+#[tactic(auto, unfolding(crate::specs::Told::began_number, crate::specs::Told::began_slice, vectors::specs::Memory::put))]
+pub(crate) fn tell_begun(begun: Result<Begun, Refusal>, numbers: &mut [f64]) -> u32
     requires { 12 ≤ length numbers.old }
     ensures { (result ≡ began_number (began_of begun)) × (numbers.new ≡ began_slice (began_of begun) numbers.old) }
 {
     match begun {
-        Begun::Refused(n) => n as u32,
-        Begun::Accepted(run, count) => {
-            lay_out(run, count, 0, 0.0, numbers);
+        Err(refusal) => refusal_number(refusal),
+        Ok(begun) => {
+            let last = LastCall {
+                frames: begun.count,
+                attempts: 0,
+                mass: 0.0,
+            };
+            numbers[..RECORD_LENGTH].copy_from_slice(&laid_out(begun.record, last));
             0
         }
     }

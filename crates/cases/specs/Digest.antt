@@ -1,8 +1,8 @@
 -- The digest of a list of floats, as in oracle/digest.rs. Definitions only.
-use mathlib.Core.List.{List, foldl}
-use Rattle.std.specs.Prelude.{ℕ, ◌+◌, ◌*◌, ◌/◌, ◌%◌, ◌^◌, Float}
+use Rattle.std.specs.Prelude.{ℕ, ◌+◌, ◌*◌, ◌/◌, ◌%◌, ◌^◌, List, Float}
 use Rattle.std.specs.Float.{binary64}
 use Rattle.std.specs.Float.Ieee.{to_bits}
+use Rattle.std.specs.List.{fold}
 
 -- d × 1000003 + x modulo a prime below 2^40; of x its 32 low bits
 unfoldable pub mixed_of : ℕ → ℕ → ℕ
@@ -14,4 +14,4 @@ with_of d x = mixed_of (mixed_of d (to_bits binary64 x / 2 ^ 32)) (to_bits binar
 
 -- 1 with each float of the list in turn
 unfoldable pub digest_of : List Float → ℕ
-digest_of xs = foldl with_of 1 xs
+digest_of xs = fold with_of 1 xs

@@ -5,6 +5,7 @@ ghost use Rattle.cases.specs.Arguments.{next_of, pattern_of, after_of, unit_of, 
 use crate::digest::mixed;
 use vectors::bits::of_bits;
 
+#[tactic(auto, unfolding(crate::specs::Arguments::next_of))]
 fn next(s: u64) -> u64
     ensures { result ≡ next_of s }
 {
@@ -12,6 +13,7 @@ fn next(s: u64) -> u64
 }
 
 // 64 bits of state s and the state after it. A state is below 2^40, so the remainders change nothing.
+#[tactic(auto, unfolding(crate::specs::Arguments::pattern_of, crate::specs::Arguments::half_of))]
 fn pattern(s: u64) -> u64
     ensures { result ≡ pattern_of s }
 {
@@ -19,6 +21,7 @@ fn pattern(s: u64) -> u64
 }
 
 // The state after the two that `pattern` uses.
+#[tactic(auto, unfolding(crate::specs::Arguments::after_of))]
 pub fn after(s: u64) -> u64
     ensures { result ≡ after_of s }
 {
@@ -33,34 +36,33 @@ fn unit(s: u64) -> f64
 }
 
 // u, with +infinity at point kind - 16 of every 4096.
+#[tactic(auto, unfolding(crate::specs::Arguments::spike_of))]
 fn spike(kind: u32, i: usize, u: f64) -> f64
     ensures { result ≡ spike_of kind i u }
 {
     if i % 4096 + 16 == kind as usize {
-        return 1.0 / 0.0;
+        f64::INFINITY
+    } else {
+        u
     }
-    u
 }
 
+#[tactic(auto, unfolding(crate::specs::Arguments::infinite_of))]
 fn infinite(i: usize, u: f64) -> f64
     ensures { result ≡ infinite_of i u }
 {
-    if i % 11 == 5 {
-        return u / 0.0;
-    }
-    u
+    if i % 11 == 5 { u / 0.0 } else { u }
 }
 
+#[tactic(auto, unfolding(crate::specs::Arguments::missing_of))]
 fn missing(i: usize, u: f64) -> f64
     ensures { result ≡ missing_of i u }
 {
-    if i % 13 == 6 {
-        return 0.0 / 0.0;
-    }
-    u
+    if i % 13 == 6 { f64::NAN } else { u }
 }
 
 // Entry i, at the point r, of a vector of a kind, with the generator in state s.
+#[tactic(auto, unfolding(crate::specs::Arguments::entry_of, crate::specs::Arguments::entries_of))]
 fn entry(kind: u32, r: f64, i: usize, s: u64) -> f64
     ensures { result ≡ entry_of kind r i s }
 {
@@ -85,13 +87,25 @@ pub fn vector(level: u32, kind: u32, values: &mut [f64])
     ensures { values.new ≡ vector_of level kind (length values.old) }
 {
     let mut s = mixed(mixed(17, level as u64), kind as u64);
-    for i in 0..values.len() {
-        values[i] = entry(kind, vectors::grid::point(level, i), i, s);
+    for (i, x) in values.iter_mut().enumerate() {
+        *x = entry(kind, vectors::grid::point(level, i), i, s);
         s = after(s);
     }
 }
 
-// A number of a range: any pattern, -710 to 711, near zero, 0 to pi/2, -10 to 10, -1 to 1.
+// The ranges of `argument` and `list` by their numbers: any pattern, -710 to 711, near zero, 0 to pi/2, -10 to 10, -1 to 1.
+#[derive(Clone, Copy)]
+pub enum Range {
+    Patterns,
+    Exp,
+    NearZero,
+    Quarter,
+    Ten,
+    Unit,
+}
+
+// A number of a range. It takes every number for a range, from 5 on that of Range::Unit.
+#[tactic(auto, unfolding(crate::specs::Arguments::argument_of, crate::specs::Arguments::ranges_of))]
 pub fn argument(range: u32, s: u64) -> f64
     ensures { result ≡ argument_of range s }
 {
@@ -111,8 +125,8 @@ pub fn list(range: u32, seed: u64, values: &mut [f64])
     ensures { values.new ≡ list_of range seed (length values.old) }
 {
     let mut s = seed;
-    for i in 0..values.len() {
-        values[i] = argument(range, s);
+    for x in values.iter_mut() {
+        *x = argument(range, s);
         s = after(s);
     }
 }

@@ -6,6 +6,7 @@ use vectors::bits::bits_of;
 
 // d * 1000003 + x modulo a prime below 2^40. The inner remainders keep the sum within 64 bits: d's changes nothing, and
 // x's does not where x is half a pattern.
+#[tactic(auto, unfolding(crate::specs::Digest::mixed_of))]
 pub fn mixed(d: u64, x: u64) -> u64
     ensures { result ≡ mixed_of d x }
 {
@@ -13,6 +14,7 @@ pub fn mixed(d: u64, x: u64) -> u64
 }
 
 // d with one more float: its high half, then its low half.
+#[tactic(auto, unfolding(crate::specs::Digest::with_of))]
 pub fn with(d: u64, x: f64) -> u64
     ensures { result ≡ with_of d x }
 {
@@ -21,12 +23,9 @@ pub fn with(d: u64, x: f64) -> u64
 }
 
 // The digest of a list starts at 1.
+#[tactic(auto, unfolding(crate::specs::Digest::digest_of))]
 pub fn digest(values: &[f64]) -> u64
     ensures { result ≡ digest_of values.now }
 {
-    let mut d = 1;
-    for i in 0..values.len() {
-        d = with(d, values[i]);
-    }
-    d
+    values.iter().fold(1, |d, x| with(d, *x))
 }

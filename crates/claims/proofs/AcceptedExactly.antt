@@ -5,9 +5,7 @@ use Rattle.std.proofs.Common.{sym, ap, ap₂, ◌∙◌, subst, arith}
 use Rattle.run.specs.Order.{settings_at}
 use Rattle.run.specs.OrderLines.{budgets_from}
 use Rattle.run.specs.declared.settings.Settings.{Settings}
-use Rattle.run.specs.declared.order.Command.{Command}
-use Rattle.run.specs.declared.order.Command.TheVariants.{Amplitude, Level, MaxTime, Interval, DxLevel, Skip, Begin, Advance, End}
-use Rattle.run.specs.declared.order.Read.TheVariants.{Order}
+use Rattle.run.specs.Order.{Command, Amplitude, Level, MaxTime, Interval, DxLevel, Skip, Begin, Advance, End, Order}
 use Rattle.claims.specs.OrderForm.{setting_commands, HasForm, Accepts}
 use Rattle.claims.specs.CommandKindLaws.{first_of, times_here, times_tail, times_perm, first_perm, six_none, six_most}
 use Rattle.claims.specs.OrderFaults.{kind, times}

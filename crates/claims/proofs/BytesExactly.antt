@@ -7,8 +7,7 @@ use borrow.Author.Tests.{ltb-false, lt-leb, le-leb, le-ltb}
 use Rattle.run.specs.Bytes.{byte_at}
 use Rattle.run.specs.Order.{is_known, operand_size, command_of, is_cut, command_at, next_at}
 use Rattle.run.specs.declared.settings.Settings.{Settings}
-use Rattle.run.specs.declared.order.Command.{Command}
-use Rattle.run.specs.declared.order.Command.TheVariants.{Amplitude, Level, MaxTime, Interval, DxLevel, Skip, Begin, Advance, End, Wrong}
+use Rattle.run.specs.Order.{Command, Amplitude, Level, MaxTime, Interval, DxLevel, Skip, Begin, Advance, End, Wrong}
 use Rattle.claims.specs.OrderForm.{commands_from, commands_in, setting_commands, form_of, Spells, none, more, HasForm, HasBytes, Accepts}
 use Rattle.claims.specs.CommandKindLaws.{times-append, times_tail, times_perm, six_none}
 use Rattle.claims.specs.OrderFaults.{kind, times}

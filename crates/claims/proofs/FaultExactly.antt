@@ -16,10 +16,8 @@ use Rattle.vectors.specs.MemoryLaws.{side}
 use Rattle.run.specs.Bytes.{byte_at}
 use Rattle.run.specs.Order.{is_known, operand_size, switch_of, command_of, is_cut, command_at, command_fault, read_order}
 use Rattle.run.specs.OrderLaws.{tells}
-use Rattle.run.specs.declared.order.Command.{Command}
-use Rattle.run.specs.declared.order.Command.TheVariants.{Skip, End, Wrong}
+use Rattle.run.specs.Order.{Command, Skip, End, Wrong, Refused}
 use Rattle.run.specs.declared.order.Places.{Places}
-use Rattle.run.specs.declared.order.Read.TheVariants.{Refused}
 use Rattle.claims.specs.OrderFaults.{kind, Sound, HasFault, unknown, cut, switch, misplaced, no_end, after_end}
 use Rattle.claims.specs.OrderFaults.{Faulty, at_command, at_length, behind_end}
 use Rattle.claims.specs.CommandBytesLaws.{operand_at, encodes}

@@ -7,8 +7,7 @@ use Rattle.std.proofs.lemmas.Bool.{lt-leb}
 use Rattle.run.specs.Bytes.{byte_at}
 use Rattle.run.specs.Order.{is_known, operand_size, switch_of, command_of, is_cut, command_at, command_fault}
 use Rattle.run.specs.OrderLaws.{command_end}
-use Rattle.run.specs.declared.order.Command.{Command}
-use Rattle.run.specs.declared.order.Command.TheVariants.{End, Wrong}
+use Rattle.run.specs.Order.{Command, End, Wrong}
 use Rattle.claims.specs.OrderFaults.{kind, HasFault, unknown, cut, switch, misplaced, no_end, after_end}
 use Rattle.claims.specs.OrderFaults.{Faulty, at_command, at_length, behind_end}
 use Rattle.claims.specs.CommandBytesLaws.{coded}

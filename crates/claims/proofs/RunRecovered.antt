@@ -1,6 +1,6 @@
 -- What a run prints gives its floats back, with no condition: each frame from its line, the time and the mass of an outcome from their digits.
 use Rattle.std.specs.Prelude.{ℕ, ◌+◌, ◌*◌, List, [], ◌≡◌, Float, length, get_or, take, drop}
-use Rattle.std.proofs.Math.Option.{Option, none, some, map}
+use Rattle.std.specs.Prelude.{Option, None, Some, option_map}
 use Rattle.std.proofs.Common.{sym, ◌∙◌, subst, ext_get_or}
 use Rattle.std.specs.Float.{nan}
 use Rattle.vectors.specs.Constants.{bh_radial_factor_threshold}
@@ -32,13 +32,13 @@ line_recovered xs h =
     number : ℕ → Float
     number i = float_of (take 16 (drop (6 + 17 * i) (frame_line xs)))
 
-mass_fits : (a : State) (mass : Float) → StateFits a → mass_at a ≡ some mass → Fits mass
+mass_fits : (a : State) (mass : Float) → StateFits a → mass_at a ≡ Some mass → Fits mass
 unfolding state_black_hole_mass black_hole_mass_of
 mass_fits a mass h e = go (first_at_or_below bh_radial_factor_threshold a.radial_factor) e
   where
-    go : (i : Option ℕ) → map (λ i. get_or a.mass i nan) i ≡ some mass → Fits mass
-    go none g = absurd (some_not_none mass (sym g))
-    go (some i) g = let same : get_or a.mass i nan ≡ mass = cc in subst Fits same (h.constraints.mass.at i)
+    go : (i : Option ℕ) → option_map (λ i. get_or a.mass i nan) i ≡ Some mass → Fits mass
+    go None g = absurd (some_not_none mass (sym g))
+    go (Some i) g = let same : get_or a.mass i nan ≡ mass = cc in subst Fits same (h.constraints.mass.at i)
 
 -- ---- for all settings and any number of attempts
 module _ (s : Settings) (k : ℕ) where
@@ -49,7 +49,7 @@ module _ (s : Settings) (k : ℕ) where
   pub time_recovered : float_of (hex (plain_run s k).state.time) ≡ (plain_run s k).state.time
   time_recovered = float_recovered (plain_run s k).state.time (run_fits s k).state.time
 
-  pub mass_recovered : (mass : Float) → mass_at (plain_run s k).state ≡ some mass → float_of (hex mass) ≡ mass
+  pub mass_recovered : (mass : Float) → mass_at (plain_run s k).state ≡ Some mass → float_of (hex mass) ≡ mass
   mass_recovered mass e = float_recovered mass (mass_fits (plain_run s k).state mass (run_fits s k).state e)
 
 -- ---- after an accepted begin, whatever list of calls follows: frame j of the joined frames

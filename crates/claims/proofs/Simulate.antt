@@ -3,7 +3,7 @@ use Prim.Native.Nat.{ℕ, zero, suc, ◌+◌}
 use Rattle.std.specs.Prelude.{Bool, ◌||◌, ◌&&◌, [], ◌∷◌, ◌≡◌, leb, Float}
 use Rattle.std.proofs.Math.Bool.{true, false, cond, not}
 use Rattle.std.proofs.Common.{true≢false, sym, ◌∙◌, arith}
-use Rattle.std.proofs.Math.Option.{Option, none, some}
+use Rattle.std.specs.Prelude.{Option, None, Some}
 use Rattle.std.proofs.Math.Path.{refl, ap}
 use borrow.Author.Tests.{le-leb}
 use Rattle.physics.specs.State.{State}
@@ -94,7 +94,7 @@ module _ (s : Settings) where
 
       go : (mass : Option Float) (late broken : Bool) → broken ≡ false → (is_some mass || late || broken) ≡ true
           → option mass collapse (cond broken broke (cond late timeout spent)) ≡ option mass collapse timeout
-      go (some x) late broken g h = refl
-      go none true false g h = refl
-      go none late true g h = absurd (true≢false g)
-      go none false false g h = absurd (true≢false (sym h))
+      go (Some x) late broken g h = refl
+      go None true false g h = refl
+      go None late true g h = absurd (true≢false g)
+      go None false false g h = absurd (true≢false (sym h))

@@ -4,14 +4,13 @@ use Rattle.std.proofs.Math.Bool.{true, false}
 use Rattle.std.proofs.Common.{sym, ◌∙◌, ap, arith, drop_at}
 use Rattle.std.proofs.lemmas.Bool.{false≢true}
 use mathlib.Core.List.{List, [], ◌∷◌, ◌++◌, map, append_assoc}
-use Rattle.std.proofs.Math.Option.{Option, none, some}
+use Rattle.std.specs.Prelude.{Option, None, Some}
 use Rattle.std.proofs.Math.Path.{refl, subst}
 use Rattle.std.proofs.Math.Dec.{ltb}
 use borrow.Author.Tests.{ltb-false, le-leb}
 use Rattle.run.specs.declared.settings.Settings.{Settings}
 use Rattle.run.specs.declared.order.Places.{Places}
-use Rattle.run.specs.declared.order.Read.{Read}
-use Rattle.run.specs.declared.order.Read.TheVariants.{Refused, Order}
+use Rattle.run.specs.Order.{Read, Refused, Order}
 use Rattle.run.specs.Calls.{begin_refusal}
 use Rattle.run.specs.FrameLaws.{Each}
 use Rattle.run.specs.FrameLaws as each
@@ -91,14 +90,14 @@ module _ (order : List ℕ) where
     run_lines_lem o e = read_lines_lem (Order s p) short read ∙ rw e
 
     begun : (o : Option ℕ) → begin_refusal s lent_state lent_work lent_frames ≡ o → Output order
-    begun (some n) e =
-        refused (refusal n) (run_lines_lem (some n) e)
+    begun (Some n) e =
+        refused (refusal n) (run_lines_lem (Some n) e)
         (among_longer 8 n program_refusals (ap (refusal_among program_refusals) (sym e) ∙ program_refusals_lem s))
-    begun none e =
+    begun None e =
         carried_out s p (ltb-false 4096 (length order) short) read e
         (record {
           rest = advances_lines s 0 budgets;
-          are = run_lines_lem none e;
+          are = run_lines_lem None e;
           told = advances_are s (lendable s lent_state lent_work lent_frames e) 0 budgets;
         })
 

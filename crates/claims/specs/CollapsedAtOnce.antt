@@ -1,7 +1,7 @@
 -- Amplitudes 64 and 128 at level 5: initial states that hold no NaN and have a radial factor <= 0.01 (01, "Constraints", "Stage and step"). As in
 -- FlatSpace.antt, each vector is computed on its own; the numbers of those that others are computed from are listed.
 use Rattle.std.specs.Prelude.{true, false, List, [], ◌∷◌, map, ◌≡◌, Float, pos}
-use Rattle.std.proofs.Math.Option.{some}
+use Rattle.std.specs.Prelude.{Some}
 use Rattle.std.proofs.Math.Path.{refl}
 use Rattle.std.proofs.Common.{ap, ◌∙◌}
 use Rattle.std.specs.Float.{fin, binary64}
@@ -114,7 +114,7 @@ module _ (amplitude : Float) (lapse radial_factor : List Float) where
     pub lapse_is : lapse_of 5 zeros (momentum amplitude) ≡ lapse
     pub radial_factor_is : radial_factor_of 5 lapse ≡ radial_factor
     pub no_nan : holds_nan initial ≡ false
-    pub mass_is : mass_at initial ≡ some mass
+    pub mass_is : mass_at initial ≡ Some mass
 
   module _ (mass : Float) (c : Computed mass) where
     constraints : constraints_of 5 zeros (momentum amplitude) ≡ stored_constraints initial
@@ -127,7 +127,7 @@ module _ (amplitude : Float) (lapse radial_factor : List Float) where
         ∙ rw (field_flat, momentum_is amplitude, constraints, time_flat)
         (laws.state_is 5 nought zeros (momentum amplitude) (mass_of 5 radial_factor) ∙ rw constraints)
 
-    collapsed : (holds_nan (first_state (at amplitude)) ≡ false) × (mass_at (first_state (at amplitude)) ≡ some mass)
+    collapsed : (holds_nan (first_state (at amplitude)) ≡ false) × (mass_at (first_state (at amplitude)) ≡ Some mass)
     collapsed = (ap holds_nan first_is ∙ c.no_nan, ap mass_at first_is ∙ c.mass_is)
 
 lapse_by : (p : List Float) → lapse_of 5 zeros p ≡ normalised_of (map exp_of (integrals (spacing_of 5) (integrand_of 5 zeros p)))
@@ -180,7 +180,7 @@ computed_64 =
 pub no_nan_64 : holds_nan (first_state (at sixty_four)) ≡ false
 no_nan_64 = (collapsed sixty_four lapse64 radial_factor64 _ computed_64).0
 
-pub collapses_64 : mass_at (first_state (at sixty_four)) ≡ some mass64
+pub collapses_64 : mass_at (first_state (at sixty_four)) ≡ Some mass64
 collapses_64 = (collapsed sixty_four lapse64 radial_factor64 _ computed_64).1
 
 -- ---- amplitude 128
@@ -230,5 +230,5 @@ computed_128 =
 pub no_nan_128 : holds_nan (first_state (at hundred_twenty_eight)) ≡ false
 no_nan_128 = (collapsed hundred_twenty_eight lapse128 radial_factor128 _ computed_128).0
 
-pub collapses_128 : mass_at (first_state (at hundred_twenty_eight)) ≡ some mass128
+pub collapses_128 : mass_at (first_state (at hundred_twenty_eight)) ≡ Some mass128
 collapses_128 = (collapsed hundred_twenty_eight lapse128 radial_factor128 _ computed_128).1

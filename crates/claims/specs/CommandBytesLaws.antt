@@ -6,8 +6,7 @@ use Rattle.std.proofs.Math.Path.{ap, subst}
 use Rattle.std.specs.Float.Ieee.{binary64, of_bits}
 use Rattle.run.specs.Bytes.{byte_at, little, float_at}
 use Rattle.run.specs.Order.{is_known, operand_size, switch_of, command_of}
-use Rattle.run.specs.declared.order.Command.{Command}
-use Rattle.run.specs.declared.order.Command.TheVariants.{Amplitude, Level, MaxTime, Interval, DxLevel, Advance, Wrong}
+use Rattle.run.specs.Order.{Command, Amplitude, Level, MaxTime, Interval, DxLevel, Advance, Wrong}
 use Rattle.claims.specs.OrderForm.{number_of, Encodes, is01, is02, is03, is04, is05, is06_no, is06_yes, is07, is08, is09}
 use Rattle.claims.specs.OrderFaults.{kind}
 

@@ -4,8 +4,7 @@ use mathlib.Core.List.{Permᴰ}
 use Rattle.std.proofs.Common.{inl, inr, ap₂, ◌∙◌, arith, lt-ltb, le-ltb, eq-eqb, ne_eqb}
 use Rattle.vectors.specs.MemoryLaws.{side}
 use Rattle.run.specs.declared.settings.Settings.{Settings}
-use Rattle.run.specs.declared.order.Command.{Command}
-use Rattle.run.specs.declared.order.Command.TheVariants.{End}
+use Rattle.run.specs.Order.{Command, End}
 use Rattle.claims.specs.OrderFaults.{kind, times}
 use Rattle.claims.specs.OrderForm.{setting_commands}
 

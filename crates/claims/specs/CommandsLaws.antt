@@ -4,7 +4,7 @@ use Rattle.std.proofs.Common.{ap, arith, leb-true, leb-false, le-leb}
 use Rattle.std.proofs.lemmas.Bool.{lt-leb}
 use Rattle.run.specs.Order.{command_at, next_at}
 use Rattle.run.specs.OrderLaws.{next_after}
-use Rattle.run.specs.declared.order.Command.{Command}
+use Rattle.run.specs.Order.{Command}
 use Rattle.claims.specs.OrderForm.{commands_from}
 
 -- where none stands

@@ -11,11 +11,8 @@ use Rattle.run.specs.Order.{operand_size, is_cut, next_at, no_places, noted, beg
 use Rattle.run.specs.Order.{begin_fault, unless_begun, command_fault, settings_at, unless_fault, ended, order_from, read_order}
 use Rattle.run.specs.OrderLaws.{tells, next_after, command_end}
 use Rattle.run.specs.declared.settings.Settings.{Settings}
-use Rattle.run.specs.declared.order.Command.{Command}
-use Rattle.run.specs.declared.order.Command.TheVariants.{Begin, Advance, End}
+use Rattle.run.specs.Order.{Command, Begin, Advance, End, Read, Order}
 use Rattle.run.specs.declared.order.Places.{Places}
-use Rattle.run.specs.declared.order.Read.{Read}
-use Rattle.run.specs.declared.order.Read.TheVariants.{Order}
 use Rattle.claims.specs.OrderForm.{commands_from, commands_in, HasForm}
 use Rattle.claims.specs.OrderFaults.{kind, times}
 use Rattle.claims.specs.SettingPlacesLaws.{place_of}

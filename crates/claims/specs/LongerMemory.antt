@@ -3,7 +3,7 @@
 use Rattle.std.specs.Prelude.{ℕ, Bool, cond, not, ◌||◌, ◌&&◌, List, ◌++◌, refl, Float, length, take, drop}
 use Rattle.std.proofs.Math.Bool.{true, false}
 use Rattle.std.proofs.Common.{true≢false, sym, ◌∙◌, ap, subst, arith, length-take, ltb-false, le-ltb}
-use Rattle.std.proofs.Math.Option.{Option, none, some}
+use Rattle.std.specs.Prelude.{Option, None, Some}
 use Rattle.std.proofs.Math.Path.{◌≡◌}
 use Rattle.std.proofs.Math.Dec.{ltb}
 use Rattle.physics.specs.State.{lay_out}
@@ -32,7 +32,7 @@ module _ (s : Settings) (whole work frames : List Float) (b : ℕ) where
   long_enough h =
       le-ltb (length whole) (cell_count s) (let k = ltb-false (length front) (cell_count s) h in omega (arith, k, length-take b whole))
 
-  not_refused : refusal front ≡ none → refusal whole ≡ none
+  not_refused : refusal front ≡ None → refusal whole ≡ None
   unfolding begin_refusal lent_refusal
   not_refused e =
       go (fault_at s) (ltb (length front) (cell_count s)) (ltb (length whole) (cell_count s)) (ltb (length work) (work_count s))
@@ -40,20 +40,20 @@ module _ (s : Settings) (whole work frames : List Float) (b : ℕ) where
     where
       go :
           (fault : Option ℕ) (x y w f d : Bool) → (x ≡ false → y ≡ false) →
-          ◌≡◌ {A = Option ℕ} (option (option fault some (cond (x || w) (some 11) (cond f (some 12) none))) some (cond d (some 13) none)) none →
-          ◌≡◌ {A = Option ℕ} (option (option fault some (cond (y || w) (some 11) (cond f (some 12) none))) some (cond d (some 13) none)) none
-      go (some n) x y w f d h g = absurd (some_not_none n g)
-      go none true y w f d h g = absurd (some_not_none 11 g)
-      go none false true w f d h g = absurd (true≢false (h refl))
-      go none false false w f d h g = g
+          ◌≡◌ {A = Option ℕ} (option (option fault Some (cond (x || w) (Some 11) (cond f (Some 12) None))) Some (cond d (Some 13) None)) None →
+          ◌≡◌ {A = Option ℕ} (option (option fault Some (cond (y || w) (Some 11) (cond f (Some 12) None))) Some (cond d (Some 13) None)) None
+      go (Some n) x y w f d h g = absurd (some_not_none n g)
+      go None true y w f d h g = absurd (some_not_none 11 g)
+      go None false true w f d h g = absurd (true≢false (h refl))
+      go None false false w f d h g = g
 
   module _ (r : Record) (k : ℕ) (e : (begun s front work frames).answer ≡ accepted r k) where
-    front_accepted : refusal front ≡ none
+    front_accepted : refusal front ≡ None
     front_accepted = go (refusal front) refl
       where
-        go : (o : Option ℕ) → refusal front ≡ o → refusal front ≡ none
-        go (some n) h = absurd (clash n r k (ap (λ (a : AfterBegin). a.answer) (sym (begin_some s front work frames n h)) ∙ e))
-        go none h = h
+        go : (o : Option ℕ) → refusal front ≡ o → refusal front ≡ None
+        go (Some n) h = absurd (clash n r k (ap (λ (a : AfterBegin). a.answer) (sym (begin_some s front work frames n h)) ∙ e))
+        go None h = h
 
     begin_front : begun s front work frames ≡ begun_accepted s front work frames
     begin_front = begin_none s front work frames front_accepted

@@ -7,8 +7,7 @@ use Rattle.std.proofs.Math.Dec.{ltb}
 use borrow.Author.Tests.{ltb-true, ltb-false, lt-ltb, le-ltb, eqb-true, eqb-false}
 use Rattle.run.specs.Order.{no_places, noted, begun, complete, setting_fault, begin_fault, unless_begun, command_fault}
 use Rattle.run.specs.OrderLaws.{AllCame, complete_all}
-use Rattle.run.specs.declared.order.Command.{Command}
-use Rattle.run.specs.declared.order.Command.TheVariants.{Amplitude, Level, MaxTime, Interval, DxLevel, Skip, Begin, Advance, End, Wrong}
+use Rattle.run.specs.Order.{Command, Amplitude, Level, MaxTime, Interval, DxLevel, Skip, Begin, Advance, End, Wrong}
 use Rattle.run.specs.declared.order.Places.{Places}
 use Rattle.claims.specs.OrderFaults.{kind, times, Misplaced, repeated, after_begin, second_begin, early_advance, missing, early_end, InPlace}
 use Rattle.claims.specs.CommandKindLaws.{times-append, times_here, times_other}

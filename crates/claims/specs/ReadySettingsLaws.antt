@@ -6,7 +6,7 @@ use Rattle.std.proofs.lemmas.Bool.{eqb-false}
 use Rattle.vectors.specs.MemoryLaws.{side}
 use Rattle.run.specs.Order.{no_places, noted, begun, command_fault}
 use Rattle.run.specs.declared.settings.Settings.{Settings}
-use Rattle.run.specs.declared.order.Command.{Command}
+use Rattle.run.specs.Order.{Command}
 use Rattle.run.specs.declared.order.Places.{Places}
 use Rattle.claims.specs.OrderForm.{setting_commands}
 use Rattle.claims.specs.CommandKindLaws.{times_here, times_other, times_tail, times_perm, six_some, six_none, six_most}

@@ -3,7 +3,7 @@ use Rattle.std.specs.Prelude.{◌≡◌, Bool, cond, not, ◌||◌, ◌&&◌, Li
 use Rattle.std.proofs.Math.Path.{refl, ap}
 use Rattle.std.proofs.Common.{◌∙◌, true≢false, arith, pow_mono, ltb-true, ltb-false}
 use Rattle.std.proofs.Math.Bool.{true, false}
-use Rattle.std.proofs.Math.Option.{Option, none, some}
+use Rattle.std.specs.Prelude.{Option, None, Some}
 use Rattle.vectors.specs.Grid.{level_in_range}
 use Rattle.vectors.specs.GridLaws.{points_in}
 use Rattle.run.specs.declared.settings.Settings.{Settings}
@@ -30,8 +30,8 @@ among (x ∷ xs) n = eqb n x || among xs n
 
 -- the same of a refusal's number; where nothing is refused, yes
 abbrev pub refusal_among : List ℕ → Option ℕ → Bool
-refusal_among xs none = true
-refusal_among xs (some n) = among xs n
+refusal_among xs None = true
+refusal_among xs (Some n) = among xs n
 
 pub among_longer : (x n : ℕ) (xs : List ℕ) → among xs n ≡ true → among (x ∷ xs) n ≡ true
 unfolding among
@@ -57,31 +57,31 @@ module _ (xs : List ℕ) where
   either true o p e f = e
   either false o p e f = f
 
-  or_else : (o p : Option ℕ) → refusal_among xs o ≡ true → refusal_among xs p ≡ true → refusal_among xs (option o some p) ≡ true
-  or_else none p e f = f
-  or_else (some n) p e f = e
+  or_else : (o p : Option ℕ) → refusal_among xs o ≡ true → refusal_among xs p ≡ true → refusal_among xs (option o Some p) ≡ true
+  or_else None p e f = f
+  or_else (Some n) p e f = e
 
   fault_among : (s : Settings) → among xs 5 ≡ true → among xs 6 ≡ true → among xs 7 ≡ true → refusal_among xs (fault_at s) ≡ true
   unfolding fault_at inputs.fault_at
   fault_among s five six seven =
-      either (level_in_range s.level) _ (some 5) (either (interval_too_short s) (some 6) _ six (either (dx_too_fine s) (some 7) none seven refl)) five
+      either (level_in_range s.level) _ (Some 5) (either (interval_too_short s) (Some 6) _ six (either (dx_too_fine s) (Some 7) None seven refl)) five
 
 pub begin_refusals_lem : (s : Settings) (state work frames : ℕ) → refusal_among begin_refusals (begin_refusal s state work frames) ≡ true
 unfolding begin_refusal lent_refusal among
 begin_refusals_lem s state work frames =
     or_else begin_refusals (lent_refusal s state work frames) _
     (or_else begin_refusals (fault_at s) _ (fault_among begin_refusals s refl refl refl)
-    (either begin_refusals (too_short s state work) (some 11) _ refl
-    (either begin_refusals (not s.skip && ltb frames (frame_count s)) (some 12) none refl refl)))
-    (either begin_refusals (holds_nan (first_state s)) (some 13) none refl refl)
+    (either begin_refusals (too_short s state work) (Some 11) _ refl
+    (either begin_refusals (not s.skip && ltb frames (frame_count s)) (Some 12) None refl refl)))
+    (either begin_refusals (holds_nan (first_state s)) (Some 13) None refl refl)
 
 pub advance_refusals_lem : (r : Record) (memory : List Float) (work budget : ℕ) → refusal_among advance_refusals (advance_refusal r memory work budget) ≡ true
 unfolding advance_refusal among
 advance_refusals_lem r memory work budget =
     let s = r.settings in
     or_else advance_refusals (fault_at s) _ (fault_among advance_refusals s refl refl refl)
-    (either advance_refusals (too_short s (length memory) work) (some 11) _ refl
-    (either advance_refusals (too_many (has_ended s (machine_of r memory)) r.steps budget) (some 14) none refl refl))
+    (either advance_refusals (too_short s (length memory) work) (Some 11) _ refl
+    (either advance_refusals (too_many (has_ended s (machine_of r memory)) r.steps budget) (Some 14) None refl refl))
 
 -- ---- the search
 -- 02, request 1: "15 for ends .., before any run; 16 .., after 15 and begin's checks"; a begin with skip is never refused with 12
@@ -90,8 +90,8 @@ search_refusals = 5 ∷ 6 ∷ 7 ∷ 11 ∷ 13 ∷ 15 ∷ 16 ∷ []
 
 -- where a search is refused
 abbrev pub sought_refusal : Sought → Option ℕ
-sought_refusal (refused_search n) = some n
-sought_refusal (found b) = none
+sought_refusal (refused_search n) = Some n
+sought_refusal (found b) = None
 
 module _ (unit : Float) (s : Settings) (budget state work : ℕ) where
   begun_refusals : (a : Float) → refusal_among search_refusals (begun_refusal (ran_at s a state work budget)) ≡ true
@@ -101,15 +101,15 @@ module _ (unit : Float) (s : Settings) (budget state work : ℕ) where
       ap (refusal_among search_refusals) (begun_refusal_lem s a state work budget)
       ∙ or_else search_refusals (lent_refusal t state work 0) _
       (or_else search_refusals (fault_at t) _ (fault_among search_refusals t refl refl refl)
-      (either search_refusals (too_short t state work) (some 11) none refl refl))
-      (either search_refusals (holds_nan (first_state t)) (some 13) none refl refl)
+      (either search_refusals (too_short t state work) (Some 11) None refl refl))
+      (either search_refusals (holds_nan (first_state t)) (Some 13) None refl refl)
 
   ends_refusals : (a b : Float) → refusal_among search_refusals (ends_refusal (ran_at s a state work budget) (ran_at s b state work budget)) ≡ true
   unfolding ends_refusal among
   ends_refusals a b =
       or_else search_refusals (begun_refusal (ran_at s a state work budget)) _ (begun_refusals a)
       (or_else search_refusals (begun_refusal (ran_at s b state work budget)) _ (begun_refusals b)
-      (either search_refusals (is_timeout (side_of (ran_at s a state work budget)) && is_collapse (side_of (ran_at s b state work budget))) none (some 16) refl refl))
+      (either search_refusals (is_timeout (side_of (ran_at s a state work budget)) && is_collapse (side_of (ran_at s b state work budget))) None (Some 16) refl refl))
 
   pub search_refusals_lem : (low high halvings : ℕ) → refusal_among search_refusals (sought_refusal (search_of unit s budget state work low high halvings)) ≡ true
   unfolding search_of sought_of among
@@ -122,12 +122,12 @@ module _ (unit : Float) (s : Settings) (budget state work : ℕ) where
           (sought_refusal (cond b (option o refused_search (found (halve (side_at unit s budget state work) halvings 0 low high))) (refused_search 15)))
           ≡ true
       go false o e = refl
-      go true none e = refl
-      go true (some n) e = e
+      go true None e = refl
+      go true (Some n) e = e
 
 -- ---- the program
 -- a frame has at most 1,163 numbers where state memory for level 7 suffices
-program_frames : (s : Settings) → fault_at s ≡ none → too_short s lent_state lent_work ≡ false → frame_count s ≤ lent_frames
+program_frames : (s : Settings) → fault_at s ≡ None → too_short s lent_state lent_work ≡ false → frame_count s ≤ lent_frames
 unfolding frame_count
 program_frames s sound fits = go (ltb lent_state (cell_count s)) refl fits
   where
@@ -142,17 +142,17 @@ unfolding begin_refusal lent_refusal among
 program_refusals_lem s =
     or_else program_refusals (lent_refusal s lent_state lent_work lent_frames) _
     (go (fault_at s) refl (fault_among program_refusals s refl refl refl) (too_short s lent_state lent_work) refl (ltb lent_frames (frame_count s)) refl)
-    (either program_refusals (holds_nan (first_state s)) (some 13) none refl refl)
+    (either program_refusals (holds_nan (first_state s)) (Some 13) None refl refl)
   where
     go :
         (o : Option ℕ) → fault_at s ≡ o → refusal_among program_refusals o ≡ true → (a : Bool) → too_short s lent_state lent_work ≡ a →
         (b : Bool) → ltb lent_frames (frame_count s) ≡ b →
-        refusal_among program_refusals (option o some (cond a (some 11) (cond (not s.skip && b) (some 12) none))) ≡ true
-    go (some n) ho h a ha b hb = h
-    go none ho h true ha b hb = refl
-    go none ho h false ha true hb = let m = program_frames s ho ha in absurd (omega (arith, ltb-true lent_frames (frame_count s) hb))
-    go none ho h false ha false hb = unframed s.skip
+        refusal_among program_refusals (option o Some (cond a (Some 11) (cond (not s.skip && b) (Some 12) None))) ≡ true
+    go (Some n) ho h a ha b hb = h
+    go None ho h true ha b hb = refl
+    go None ho h false ha true hb = let m = program_frames s ho ha in absurd (omega (arith, ltb-true lent_frames (frame_count s) hb))
+    go None ho h false ha false hb = unframed s.skip
       where
-        unframed : (x : Bool) → refusal_among program_refusals (cond (not x && false) (some 12) none) ≡ true
+        unframed : (x : Bool) → refusal_among program_refusals (cond (not x && false) (Some 12) None) ≡ true
         unframed true = refl
         unframed false = refl

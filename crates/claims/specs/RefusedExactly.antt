@@ -10,10 +10,8 @@ use borrow.Author.Tests.{ltb-true, leb-true, leb-false, lt-ltb, lt-leb, le-leb, 
 use Rattle.run.specs.Bytes.{byte_at}
 use Rattle.run.specs.Order.{command_at, next_at, no_places, noted, command_fault, settings_at, unless_fault, ended, order_from, read_order}
 use Rattle.run.specs.OrderLaws.{tells, next_after, command_end}
-use Rattle.run.specs.declared.order.Command.TheVariants.{End}
+use Rattle.run.specs.Order.{End, Read, Refused, Order}
 use Rattle.run.specs.declared.order.Places.{Places}
-use Rattle.run.specs.declared.order.Read.{Read}
-use Rattle.run.specs.declared.order.Read.TheVariants.{Refused, Order}
 use Rattle.claims.specs.OrderFaults.{Reached, first, next, Faulty, at_command, at_length, behind_end}
 
 module _ (s : List ℕ) where

@@ -2,7 +2,7 @@
 -- bracket, by one halving, and the one between 1 and 2 is refused with 16.
 use Rattle.std.specs.Prelude.{ℕ, false, not, ◌≡◌, refl, Float}
 use Rattle.std.proofs.Math.Bool.{and-false}
-use Rattle.std.proofs.Math.Option.{none, some}
+use Rattle.std.specs.Prelude.{None, Some}
 use Rattle.std.proofs.Common.{ap, ◌∙◌}
 use Rattle.std.specs.Float.Ieee.{mul, round, of_int, lt}
 use Rattle.vectors.specs.Grid.{points_of}
@@ -22,7 +22,7 @@ use Rattle.claims.specs.NotEmpty.{skipped, no_nan, delta, machine_at, first_skip
 
 -- ---- the run at an amplitude, with memories for level 5 and a budget of 1
 module _ (amplitude : Float) (sound : holds_nan (first_state (at amplitude)) ≡ false) where
-  begins : begin_refusal (at amplitude) 264 1320 0 ≡ none
+  begins : begin_refusal (at amplitude) 264 1320 0 ≡ None
   unfolding begin_refusal lent_refusal fault_at inputs.fault_at points_of lt mul round of_int
   begins = rw sound
 
@@ -36,7 +36,7 @@ module _ (amplitude : Float) (sound : holds_nan (first_state (at amplitude)) ≡
   ran_is m o run out = rw (begins, few, run, out)
 
   -- it collapses at once
-  module _ (mass : Float) (hole : mass_at (first_state (at amplitude)) ≡ some mass) where
+  module _ (mass : Float) (hole : mass_at (first_state (at amplitude)) ≡ Some mass) where
     stays : plain_run (at amplitude) 1 ≡ start (at amplitude)
     unfolding plain_run start ended
     stays = attempt_ended (at amplitude) (start (at amplitude)) (rw hole)

@@ -5,7 +5,7 @@
 use Prim.Native.Nat.{ℕ, zero, suc, ◌+◌}
 use Rattle.std.specs.Prelude.{Bool, ◌&&◌, List, [], ◌∷◌, ◌++◌, leb, Float}
 use Rattle.std.proofs.Math.Bool.{false, cond, not}
-use Rattle.std.proofs.Math.Option.{Option}
+use Rattle.std.specs.Prelude.{Option}
 use Rattle.std.specs.Float.Ieee.{lt}
 use Rattle.physics.specs.State.{State}
 use Rattle.run.specs.declared.settings.Settings.{Settings}

@@ -1,9 +1,9 @@
 -- What a whole output has (01, "Orders (added)"), so that one that was cut is told from it. Definitions only.
 use Rattle.std.specs.Prelude.{ℕ, suc, ◌≤◌, Bool, true, false, cond, ◌&&◌, List, [], ◌∷◌, ◌++◌, map, ◌≡◌, eqb, leb, Float, length}
-use Rattle.std.proofs.Math.Option.{none}
+use Rattle.std.specs.Prelude.{None}
 use Rattle.run.specs.declared.settings.Settings.{Settings}
 use Rattle.run.specs.declared.order.Places.{Places}
-use Rattle.run.specs.declared.order.Read.TheVariants.{Order}
+use Rattle.run.specs.Order.{Order}
 use Rattle.run.specs.Calls.{begin_refusal}
 use Rattle.run.specs.FrameLaws.{Each}
 use Rattle.run.specs.Lines.{Line, frame, outcome, refusal, refusal_at}
@@ -46,7 +46,7 @@ refuses_order (refusal_at n at) = leb 1 n && leb n 4
 -- what any order prints: it is carried out, or refused in one line
 pub data Output (order : List ℕ) : Type 0 where
   carried_out : (s : Settings) (p : Places) → length order ≤ 4096 → read_order order ≡ Order s p →
-      begin_refusal s lent_state lent_work lent_frames ≡ none →
+      begin_refusal s lent_state lent_work lent_frames ≡ None →
       Whole s (length (budgets_from order p.advances 0 p.count)) (lines_of order) → Output order
   refused : (line : Line) → lines_of order ≡ line ∷ [] → refuses_order line ≡ true → Output order
 

@@ -2,7 +2,7 @@
 use Prim.Native.Nat.{ℕ, zero, suc, ◌+◌, ◌≤◌, ◌<◌}
 use mathlib.Core.Bool.{Bool, true, false, cond, ◌&&◌, false≢true}
 use mathlib.Core.List.{List, [], ◌∷◌, ◌++◌, append_assoc}
-use mathlib.Core.Option.{Option, none, some}
+use Rattle.std.specs.Prelude.{Option, None, Some, Result, is_some}
 use mathlib.Core.Path.{◌≡◌, refl, sym, ◌∙◌, ap, subst}
 use native.Mathlib.Omega.{arith}
 use lib.Dec.{ltb}
@@ -10,18 +10,17 @@ use lib.Ieee.{Float}
 use lib.ListN.{length, take, drop, length-append}
 use Rattle.vectors.specs.Memory.{put}
 use Rattle.run.specs.declared.settings.Record.{Record}
-use Rattle.run.specs.declared.order.Read.{Read}
-use Rattle.run.specs.declared.order.Read.TheVariants.{Refused, Order}
+use Rattle.run.specs.Order.{Read, Refused, Order}
 use Rattle.run.specs.declared.carry_out.Job.{Job}
-use Rattle.run.specs.declared.carry_out.Carried.{Carried}
-use Rattle.run.specs.declared.carry_out.Carried.TheVariants.{NoRoom, Last, More}
+use Rattle.run.specs.declared.carry_out.Lines.{Lines}
+use Rattle.run.specs.declared.carry_out.NoRoom.{NoRoom}
 use Rattle.run.specs.PlainRun.{option}
 use Rattle.run.specs.Tally.{refused}
 use Rattle.run.specs.Calls.{machine_of, attempts_from, begin_of, AfterAdvance, left_by, advance_refusal, advance_of}
 use Rattle.run.specs.Order.{read_order}
 use Rattle.run.specs.Lines.{texts_of, refusal, refusal_at}
 use Rattle.run.specs.OrderLines.{lines_of}
-use Rattle.run.specs.CarryOut.{Turn, advance_turn, begin_turn, AfterCall, after_carried, has_room, after_turn, stayed, go_on_of, begin_read, begin_order_of, printed_by, calls_in}
+use Rattle.run.specs.CarryOut.{Answered, refused_call, printed, answered_by, Turn, advance_turn, begin_turn, AfterCall, after_carried, has_room, after_turn, stayed, go_on_of, begin_read, begin_order_of, printed_by, calls_in}
 use Rattle.run.specs.CarryOutLaws.{order_prints}
 use Rattle.run.specs.CarryOutEnds.{calls_left, calls_of, next_of, FairNext, go_on_falls, go_on_fair, begin_fair}
 use Rattle.program_io.specs.declared.Written.{Written}
@@ -75,20 +74,20 @@ unfolding begin_order_of
 begin_ends order memory work frames out = go (has_room (length frames) (length out)) (ltb 4096 (length order)) (read_order order)
   where
     eight : AfterCall
-    eight = after_turn (record { lines = refusal 8 ∷ []; next = none }) memory frames out
+    eight = after_turn (record { lines = refusal 8 ∷ []; next = None }) memory frames out
 
     read : (r : Read) → Ends (begin_read order memory work frames out r)
-    read (Refused n at) = turn_ends (record { lines = refusal_at n at ∷ []; next = none }) memory frames out
+    read (Refused n at) = turn_ends (record { lines = refusal_at n at ∷ []; next = None }) memory frames out
     read (Order s p) = let b = begin_of s memory work frames in turn_ends (begin_turn order p b.answer b.frames) b.memory b.frames out
 
     go : (a b : Bool) (r : Read) → Ends (cond a (cond b eight (begin_read order memory work frames out r)) (stayed memory frames out))
     go false b r = omega arith
-    go true true r = turn_ends (record { lines = refusal 8 ∷ []; next = none }) memory frames out
+    go true true r = turn_ends (record { lines = refusal 8 ∷ []; next = None }) memory frames out
     go true false r = read r
 
 then_ends : (o : Option Job) (order : List ℕ) (memory work frames : List Float) (out : List ℕ) → Ends (then_called o order memory work frames out)
-then_ends none order memory work frames out = omega arith
-then_ends (some j) order memory work frames out = go_on_ends j order memory work frames out
+then_ends None order memory work frames out = omega arith
+then_ends (Some j) order memory work frames out = go_on_ends j order memory work frames out
 
 -- ---- an order that is being carried out: what was printed of its calls, and what is still to be printed
 module _ (order : List ℕ) (memory work frames : List Float) (out : List ℕ) where
@@ -121,16 +120,20 @@ module _ (order : List ℕ) (memory work frames : List Float) (out : List ℕ) w
       }
 
   module _ (memory' work' frames' : List Float) (out' : List ℕ) where
+    -- a call that answered so
+    abbrev after : Answered → AfterCall
+    after a = record { answer = a; memory = memory'; frames = frames'; out = out' }
+
     going_next :
-        (call : Carried) → is_more call ≡ true → length work' ≡ length work → length frames' ≡ length frames →
-        Going (after_carried call memory' frames' out') → Going (then_called (left_of call) order memory' work' frames' out')
+        (a : Answered) → is_some (next_of a) ≡ true → length work' ≡ length work → length frames' ≡ length frames →
+        Going (after a) → Going (then_called (next_of a) order memory' work' frames' out')
     unfolding call_at texts_to printed_by calls_left calls_of
-    going_next NoRoom h w f g = absurd (false≢true h)
-    going_next (Last end) h w f g = absurd (false≢true h)
-    going_next (More end j) h w f g = go g.behind g.enough g.owed
+    going_next (refused_call n) h w f g = absurd (false≢true h)
+    going_next (printed end None) h w f g = absurd (false≢true h)
+    going_next (printed end (Some j)) h w f g = go g.behind g.enough g.owed
       where
         c : AfterCall
-        c = after_carried (More end j) memory' frames' out'
+        c = after (printed end (Some j))
 
         next : AfterCall
         next = go_on_of j order memory' work' frames' out'
@@ -141,7 +144,7 @@ module _ (order : List ℕ) (memory work frames : List Float) (out : List ℕ) w
         go : (n : ℕ) → calls_of order j ≤ n → texts_to order work begun g.calls ++ printed_by n order work c ≡ texts_of (lines_of order) → Going next
         go zero m o = absurd (omega arith)
         go (suc n) m o =
-            let roomy = subst (λ (k : ℕ). FairNext k (some j)) (sym f) g.fair in
+            let roomy = subst (λ (k : ℕ). FairNext k (Some j)) (sym f) g.fair in
             let t = texts_to order work begun g.calls in
             record {
               calls = suc g.calls;
@@ -158,23 +161,21 @@ module _ (order : List ℕ) (memory work frames : List Float) (out : List ℕ) w
             }
 
     printed_last :
-        (n : ℕ) (call : Carried) → is_more call ≡ false →
-        printed_by n order work (after_carried call memory' frames' out') ≡ text_in (after_carried call memory' frames' out')
+        (n : ℕ) (a : Answered) → is_some (next_of a) ≡ false → printed_by n order work (after a) ≡ text_in (after a)
     unfolding printed_by
-    printed_last zero NoRoom h = refl
-    printed_last (suc n) NoRoom h = refl
-    printed_last zero (Last end) h = refl
-    printed_last (suc n) (Last end) h = refl
-    printed_last zero (More end j) h = absurd (false≢true (sym h))
-    printed_last (suc n) (More end j) h = absurd (false≢true (sym h))
+    printed_last zero (refused_call k) h = refl
+    printed_last (suc n) (refused_call k) h = refl
+    printed_last zero (printed end None) h = refl
+    printed_last (suc n) (printed end None) h = refl
+    printed_last zero (printed end (Some j)) h = absurd (false≢true (sym h))
+    printed_last (suc n) (printed end (Some j)) h = absurd (false≢true (sym h))
 
-    none_left : (call : Carried) → is_more call ≡ false → left_of call ≡ none
-    none_left NoRoom h = refl
-    none_left (Last end) h = refl
-    none_left (More end j) h = absurd (false≢true (sym h))
+    none_left : (o : Option Job) → is_some o ≡ false → o ≡ None
+    none_left None h = refl
+    none_left (Some j) h = absurd (false≢true (sym h))
 
     pub going_ended :
-        (call : Carried) → Going (after_carried call memory' frames' out') →
+        (call : Result Lines NoRoom) → Going (after_carried call memory' frames' out') →
         (written : Written) → Sent (end_of call) written → (is_all written ≡ true → is_more call ≡ false) →
         CarriedOut order memory work frames out memory' frames' out' written
     unfolding texts_to
@@ -185,25 +186,31 @@ module _ (order : List ℕ) (memory work frames : List Float) (out : List ℕ) w
           last = call;
           is = g.is;
           sent = s;
-          ends = λ w. none_left call (h w);
+          ends = λ w. none_left (left_of call) (h w);
           prints =
               λ w.
               ap (λ (b : AfterCall). t ++ text_in b) (sym g.is)
-              ∙ ap (λ (x : List ℕ). t ++ x) (sym (printed_last g.behind call (h w)))
+              ∙ ap (λ (x : List ℕ). t ++ x) (sym (printed_last g.behind (answered_by call) (h w)))
               ∙ g.owed;
         }
 
     -- each call leaves fewer to make
-    pub going_falls :
-        (call : Carried) → is_more call ≡ true → length frames' ≡ length frames → Going (after_carried call memory' frames' out') →
-        (r : Carried) (m f : List Float) (o : List ℕ) → after_carried r m f o ≡ then_called (left_of call) order memory' work' frames' out' →
-        calls_left order (left_of r) < calls_left order (left_of call)
+    falls :
+        (a : Answered) → is_some (next_of a) ≡ true → length frames' ≡ length frames → Going (after a) →
+        (r : Result Lines NoRoom) (m f : List Float) (o : List ℕ) → after_carried r m f o ≡ then_called (next_of a) order memory' work' frames' out' →
+        calls_left order (left_of r) < calls_left order (next_of a)
     unfolding calls_left
-    going_falls NoRoom h l g r m f o q = absurd (false≢true h)
-    going_falls (Last end) h l g r m f o q = absurd (false≢true h)
-    going_falls (More end j) h l g r m f o q =
+    falls (refused_call n) h l g r m f o q = absurd (false≢true h)
+    falls (printed end None) h l g r m f o q = absurd (false≢true h)
+    falls (printed end (Some j)) h l g r m f o q =
         subst (λ (c : AfterCall). calls_left order (next_of c.answer) < calls_of order j) (sym q)
-        (go_on_falls j order memory' work' frames' out' (subst (λ (k : ℕ). FairNext k (some j)) (sym l) g.fair))
+        (go_on_falls j order memory' work' frames' out' (subst (λ (k : ℕ). FairNext k (Some j)) (sym l) g.fair))
+
+    pub going_falls :
+        (call : Result Lines NoRoom) → is_more call ≡ true → length frames' ≡ length frames → Going (after_carried call memory' frames' out') →
+        (r : Result Lines NoRoom) (m f : List Float) (o : List ℕ) → after_carried r m f o ≡ then_called (left_of call) order memory' work' frames' out' →
+        calls_left order (left_of r) < calls_left order (left_of call)
+    going_falls call h l g r m f o q = falls (answered_by call) h l g r m f o q
 
 -- ---- the program's loop: no job is left where its test failed after all was written
 pub stopped : (written more test : Bool) → test ≡ (written && more) → test ≡ false → written ≡ true → more ≡ false
@@ -213,25 +220,25 @@ stopped false more test e h w = absurd (false≢true w)
 -- ---- what the parts promise, by the call
 module _ (order : List ℕ) (memory work frames : List Float) (out : List ℕ) where
   pub begun_ends :
-      (r : Carried) (m f : List Float) (o : List ℕ) → after_carried r m f o ≡ begin_order_of order memory work frames out → end_of r ≤ length o
+      (r : Result Lines NoRoom) (m f : List Float) (o : List ℕ) → after_carried r m f o ≡ begin_order_of order memory work frames out → end_of r ≤ length o
   begun_ends r m f o q = subst Ends (sym q) (begin_ends order memory work frames out)
 
   pub next_ends :
-      (call r : Carried) (m f : List Float) (o : List ℕ) → after_carried r m f o ≡ then_called (left_of call) order memory work frames out →
+      (call r : Result Lines NoRoom) (m f : List Float) (o : List ℕ) → after_carried r m f o ≡ then_called (left_of call) order memory work frames out →
       end_of r ≤ length o
   next_ends call r m f o q = subst Ends (sym q) (then_ends (left_of call) order memory work frames out)
 
   -- the call that begin_order answered, and one after a call that left a job
   pub going_begin :
-      Lent (length memory) (length work) (length frames) (length out) → (r : Carried) (m f : List Float) (o : List ℕ) →
+      Lent (length memory) (length work) (length frames) (length out) → (r : Result Lines NoRoom) (m f : List Float) (o : List ℕ) →
       after_carried r m f o ≡ begin_order_of order memory work frames out → Going order memory work frames out (after_carried r m f o)
   going_begin lent r m f o q = subst (Going order memory work frames out) (sym q) (going_begun order memory work frames out lent)
 
   pub going_on :
-      (memory' work' frames' : List Float) (out' : List ℕ) (call : Carried) → is_more call ≡ true →
+      (memory' work' frames' : List Float) (out' : List ℕ) (call : Result Lines NoRoom) → is_more call ≡ true →
       length work' ≡ length work → length frames' ≡ length frames →
-      Going order memory work frames out (after_carried call memory' frames' out') → (r : Carried) (m f : List Float) (o : List ℕ) →
+      Going order memory work frames out (after_carried call memory' frames' out') → (r : Result Lines NoRoom) (m f : List Float) (o : List ℕ) →
       after_carried r m f o ≡ then_called (left_of call) order memory' work' frames' out' →
       Going order memory work frames out (after_carried r m f o)
   going_on memory' work' frames' out' call h w k g r m f o q =
-      subst (Going order memory work frames out) (sym q) (going_next order memory work frames out memory' work' frames' out' call h w k g)
+      subst (Going order memory work frames out) (sym q) (going_next order memory work frames out memory' work' frames' out' (answered_by call) h w k g)

@@ -1,9 +1,9 @@
 -- 01, "Orders (added)": the program's calls, one after another, and what it has printed of them.
-use Rattle.std.specs.Prelude.{ℕ, zero, suc, ◌≤◌, Bool, true, false, List, [], ◌++◌, ◌≡◌, Float, take}
-use Rattle.std.proofs.Math.Option.{Option, none, some}
+use Rattle.std.specs.Prelude.{ℕ, zero, suc, ◌≤◌, Bool, true, List, [], ◌++◌, ◌≡◌, Float, take}
+use Rattle.std.specs.Prelude.{Option, None, Some, Result, is_some}
 use Rattle.run.specs.declared.carry_out.Job.{Job}
-use Rattle.run.specs.declared.carry_out.Carried.{Carried}
-use Rattle.run.specs.declared.carry_out.Carried.TheVariants.{NoRoom, Last, More}
+use Rattle.run.specs.declared.carry_out.Lines.{Lines}
+use Rattle.run.specs.declared.carry_out.NoRoom.{NoRoom}
 use Rattle.run.specs.Lines.{texts_of}
 use Rattle.run.specs.OrderLines.{lent_state, lent_work, lent_frames, lines_of}
 use Rattle.run.specs.CarryOut.{Answered, refused_call, printed, AfterCall, answered_by, after_carried, room_for, stayed, go_on_of, begin_order_of}
@@ -19,22 +19,20 @@ pub record Lent (memory work frames out : ℕ) : Type 0 where
   pub room : room_for lent_frames ≤ out
 
 -- ---- one call
--- whether a job is left
-abbrev pub is_more : Carried → Bool
-is_more NoRoom = false
-is_more (Last end) = false
-is_more (More end job) = true
-
 -- what is left of the order
-abbrev pub left_of : Carried → Option Job
+abbrev pub left_of : Result Lines NoRoom → Option Job
 left_of c = next_of (answered_by c)
+
+-- whether a job is left
+abbrev pub is_more : Result Lines NoRoom → Bool
+is_more c = is_some (left_of c)
 
 -- where the lines end in the lent bytes
 abbrev pub end_in : Answered → ℕ
 end_in (refused_call n) = 0
 end_in (printed end next) = end
 
-abbrev pub end_of : Carried → ℕ
+abbrev pub end_of : Result Lines NoRoom → ℕ
 end_of c = end_in (answered_by c)
 
 -- the lines, as the lent bytes hold them
@@ -43,8 +41,8 @@ text_in c = take (end_in c.answer) c.out
 
 -- ---- the calls one after another, each with the memories that the one before left
 abbrev pub then_called : Option Job → (order : List ℕ) → (memory work frames : List Float) → (out : List ℕ) → AfterCall
-then_called none order memory work frames out = stayed memory frames out
-then_called (some j) order memory work frames out = go_on_of j order memory work frames out
+then_called None order memory work frames out = stayed memory frames out
+then_called (Some j) order memory work frames out = go_on_of j order memory work frames out
 
 module _ (order : List ℕ) (work : List Float) (begun : AfterCall) where
   -- the k-th call after begin
@@ -64,10 +62,10 @@ pub record CarriedOut
     (order : List ℕ) (memory work frames : List Float) (out : List ℕ) (memory' frames' : List Float) (out' : List ℕ) (written : Written)
     : Type 0 where
   pub calls : ℕ
-  pub last : Carried
+  pub last : Result Lines NoRoom
   pub is : after_carried last memory' frames' out' ≡ call_at order work (begin_order_of order memory work frames out) calls
   pub sent : Sent (end_of last) written
-  pub ends : is_all written ≡ true → left_of last ≡ none
+  pub ends : is_all written ≡ true → left_of last ≡ None
   pub prints : is_all written ≡ true → texts_to order work (begin_order_of order memory work frames out) (suc calls) ≡ texts_of (lines_of order)
 
 -- the same, in memories that the caller does not see

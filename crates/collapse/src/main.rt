@@ -9,7 +9,7 @@ ghost use Rattle.program_io.specs.Output.{is_all, Sent};
 ghost use Rattle.collapse.specs.Turns.{Lent, is_more, left_of, end_of, then_called, CarriedOut, Answers};
 
 use program_io::{Input, Noted, Written, is_all, read_input, tell_failure, write};
-use run::carry_out::{Carried, begin_order, go_on};
+use run::carry_out::{Lines, NoRoom, begin_order, go_on};
 use std::io;
 use std::io::Write;
 
@@ -86,42 +86,33 @@ fn carry_out(
 
 // The call after one that left a job; after any other none is made.
 fn next_call(
-    call: Carried,
+    call: Result<Lines, NoRoom>,
     input: &[u8],
     state: &mut [f64],
     work: &mut [f64],
     frames: &mut [f64],
     out: &mut [u8],
-) -> Carried
+) -> Result<Lines, NoRoom>
     ensures { after_carried result state.new frames.new out.new ≡ then_called (left_of call) input.now state.old work.old frames.old out.old }
 {
-    match call {
-        Carried::NoRoom => Carried::NoRoom,
-        Carried::Last(_) => Carried::NoRoom,
-        Carried::More(_, job) => go_on(job, input, state, work, frames, out),
+    match call?.next {
+        Some(job) => go_on(job, input, state, work, frames, out),
+        None => Err(NoRoom),
     }
 }
 
 // Whether the lines of a call were written and a job is left.
-fn goes_on(written: Written, call: Carried) -> bool
+fn goes_on(written: Written, call: Result<Lines, NoRoom>) -> bool
     ensures { result ≡ (is_all written && is_more call) }
 {
-    match call {
-        Carried::NoRoom => false,
-        Carried::Last(_) => false,
-        Carried::More(_, _) => is_all(written),
-    }
+    is_all(written) && call.is_ok_and(|lines| lines.next.is_some())
 }
 
 // Where the lines of a call end.
-fn end_of(call: Carried) -> usize
+fn end_of(call: Result<Lines, NoRoom>) -> usize
     ensures { result ≡ end_of call }
 {
-    match call {
-        Carried::NoRoom => 0,
-        Carried::Last(end) => end,
-        Carried::More(end, _) => end,
-    }
+    call.map_or(0, |lines| lines.end)
 }
 
 // Writes the lines that end there.

@@ -1,6 +1,6 @@
 // Carries out one order turn by turn and prints the lines of each turn.
 use crate::bytes::least;
-use run::carry_out::{Carried, begin_order, go_on};
+use run::carry_out::{Lines, NoRoom, begin_order, go_on};
 use std::io;
 
 // No order of the table has as many turns.
@@ -20,9 +20,9 @@ pub fn carry_out(
     let end = least(length, whole.len());
     let order = &whole[0..end];
     let mut now = begin_order(order, state, work, frames, out);
-    for i in 0..TURNS {
+    for _ in 0..TURNS {
         send(rt, now, out)?;
-        let Carried::More(_, job) = now else {
+        let Some(job) = now.ok().and_then(|lines| lines.next) else {
             return Ok(());
         };
         now = go_on(job, order, state, work, frames, out);
@@ -30,15 +30,7 @@ pub fn carry_out(
     Ok(())
 }
 
-fn send(rt: &impl Print, now: Carried, out: &[u8]) -> io::Result<()> {
-    let end = least(end_of(now), out.len());
-    rt.write_all(&out[0..end])
-}
-
-fn end_of(now: Carried) -> usize {
-    match now {
-        Carried::More(n, _) => n,
-        Carried::Last(n) => n,
-        Carried::NoRoom => 0,
-    }
+fn send(rt: &impl Print, now: Result<Lines, NoRoom>, out: &[u8]) -> io::Result<()> {
+    let end = now.map_or(0, |lines| lines.end);
+    rt.write_all(&out[0..least(end, out.len())])
 }

@@ -1,13 +1,13 @@
 // Lent bytes: what a call of the writer answers and leaves there.
 use crate::bytes::{least, with};
-use order_forms::spelling::{Spelled, spell};
+use order_forms::spelling::{SpellError, spell};
 use std::io;
 
 // How many bytes were lent, the answer, and a digest of all of them afterwards.
 #[derive(Clone, Copy)]
 pub struct Answered {
     pub room: usize,
-    pub answer: Spelled,
+    pub answer: Result<usize, SpellError>,
     pub digest: u64,
 }
 
@@ -52,14 +52,13 @@ fn filler(i: usize) -> u8 {
 
 pub fn print(rt: &impl Print, call: Answered) -> io::Result<()> {
     number(rt, " in ", call.room as u64)?;
-    let answer = call.answer;
-    match answer {
-        Spelled::Refused(n, position) => {
-            number(rt, " refused ", n as u64)?;
-            number(rt, " ", position as u64)?;
+    match call.answer {
+        Ok(end) => number(rt, " ends ", end as u64)?,
+        Err(SpellError::Faulty(misread)) => {
+            number(rt, " refused ", u64::from(u8::from(misread.fault)))?;
+            number(rt, " ", misread.position as u64)?;
         }
-        Spelled::NoRoom => number(rt, " refused ", 17)?,
-        Spelled::To(end) => number(rt, " ends ", end as u64)?,
+        Err(SpellError::NoRoom) => number(rt, " refused ", 17)?,
     }
     number(rt, " ", call.digest)
 }

@@ -3,7 +3,6 @@ use crate::bytes::{least, with};
 use crate::draft::write;
 use crate::lent::{Answered, call, number, print};
 use crate::table::WHOLE;
-use order_forms::spelling::Spelled;
 use std::io;
 
 const SEQUENCES: usize = 720;
@@ -85,17 +84,8 @@ fn digits(k: usize) -> u64 {
 }
 
 fn counted(count: u64, made: Answered, first: Answered) -> u64 {
-    if made.digest == first.digest && end_of(made) == end_of(first) {
+    if made.digest == first.digest && made.answer == first.answer {
         return count.wrapping_add(1);
     }
     count
-}
-
-fn end_of(call: Answered) -> usize {
-    let answer = call.answer;
-    match answer {
-        Spelled::Refused(_, _) => 0,
-        Spelled::NoRoom => 0,
-        Spelled::To(end) => end,
-    }
 }

@@ -8,10 +8,8 @@ use Rattle.run.specs.Bytes.{byte_at}
 use Rattle.run.specs.Order.{operand_size, command_of, command_at, next_at, read_order, budget_at}
 use Rattle.run.specs.OrderLaws.{Stands, read_budgets}
 use Rattle.run.specs.declared.settings.Settings.{Settings}
-use Rattle.run.specs.declared.order.Command.{Command}
-use Rattle.run.specs.declared.order.Command.TheVariants.{Advance}
+use Rattle.run.specs.Order.{Command, Advance, Order}
 use Rattle.run.specs.declared.order.Places.{Places}
-use Rattle.run.specs.declared.order.Read.TheVariants.{Order}
 use Rattle.claims.proofs.BytesExactly.{whole_at}
 use Rattle.claims.specs.CommandBytesLaws.{operand_at, operand_cons, encodes}
 use Rattle.claims.specs.OrderFaults.{kind}

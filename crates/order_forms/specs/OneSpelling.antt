@@ -15,8 +15,7 @@ use Rattle.run.specs.OrderLines.{budgets_from, run_lines, read_lines, lines_of}
 use Rattle.run.specs.Lines.{refusal}
 use Rattle.run.specs.declared.settings.Settings.{Settings}
 use Rattle.run.specs.declared.order.Places.{Places}
-use Rattle.run.specs.declared.order.Read.{Read}
-use Rattle.run.specs.declared.order.Read.TheVariants.{Order}
+use Rattle.run.specs.Order.{Read, Order}
 use Rattle.claims.specs.CommandsLaws.{heads}
 use Rattle.order_forms.specs.CommandShape.{advance_bytes}
 use Rattle.order_forms.specs.OrderShape.{begins_at, settings_are}

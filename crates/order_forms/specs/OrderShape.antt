@@ -13,10 +13,8 @@ use Rattle.run.specs.Order.{operand_size, command_at, next_at, places, no_places
 use Rattle.run.specs.OrderLaws.{both, tells, setting_early, setting_once, begin_once, begun_before, begun_advances}
 use Rattle.run.specs.OrderLaws.{Keeps, accepted_ends, AllCame, complete_all, read_settings, Ends, Advances, advances_kept, advances_first}
 use Rattle.run.specs.declared.settings.Settings.{Settings}
-use Rattle.run.specs.declared.order.Command.{Command}
-use Rattle.run.specs.declared.order.Command.TheVariants.{Amplitude, Level, MaxTime, Interval, DxLevel, Skip, Begin, Advance, End, Wrong}
+use Rattle.run.specs.Order.{Command, Amplitude, Level, MaxTime, Interval, DxLevel, Skip, Begin, Advance, End, Wrong, Order}
 use Rattle.run.specs.declared.order.Places.{Places}
-use Rattle.run.specs.declared.order.Read.TheVariants.{Order}
 use Rattle.claims.specs.OrderFaults.{kind}
 use Rattle.claims.specs.ReadySettingsLaws.{none_yet}
 use Rattle.claims.specs.SettingPlacesLaws.{place_of, own_place, other_place, begun_setting, setting_fault_lem}

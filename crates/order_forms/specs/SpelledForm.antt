@@ -9,9 +9,8 @@ use Rattle.run.specs.Order.{operand_size, read_order}
 use Rattle.run.specs.OrderLaws.{Operands, read_settings}
 use Rattle.run.specs.OrderLines.{budgets_from}
 use Rattle.run.specs.declared.settings.Settings.{Settings}
-use Rattle.run.specs.declared.order.Command.TheVariants.{Amplitude, Level, MaxTime, Interval, DxLevel, Skip, Advance, End}
+use Rattle.run.specs.Order.{Amplitude, Level, MaxTime, Interval, DxLevel, Skip, Advance, End, Order}
 use Rattle.run.specs.declared.order.Places.{Places}
-use Rattle.run.specs.declared.order.Read.TheVariants.{Order}
 use Rattle.claims.specs.OrderFaults.{kind}
 use Rattle.claims.specs.OrderForm.{setting_commands, form_of, is07, is09, Spells, none, more}
 use Rattle.order_forms.specs.CommandShape.{setting_placed, advance_placed, advance_bytes}

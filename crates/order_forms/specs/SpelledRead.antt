@@ -13,10 +13,8 @@ use Rattle.run.specs.Order.{is_known, operand_size, switch_of, command_of, is_cu
 use Rattle.run.specs.Order.{setting_fault, begin_fault, unless_begun, command_fault, settings_at, unless_fault, order_from, read_order}
 use Rattle.run.specs.OrderLaws.{read_settings}
 use Rattle.run.specs.declared.settings.Settings.{Settings}
-use Rattle.run.specs.declared.order.Command.{Command}
-use Rattle.run.specs.declared.order.Command.TheVariants.{Amplitude, Level, MaxTime, Interval, DxLevel, Skip, Begin, Advance}
+use Rattle.run.specs.Order.{Command, Amplitude, Level, MaxTime, Interval, DxLevel, Skip, Begin, Advance, Order}
 use Rattle.run.specs.declared.order.Places.{Places}
-use Rattle.run.specs.declared.order.Read.TheVariants.{Order}
 use Rattle.claims.specs.FormReadLaws.{step_ends}
 use Rattle.claims.specs.OrderFaults.{kind}
 use Rattle.order_forms.specs.OrderShape.{order_length, begins_at, settings_are}

@@ -8,7 +8,7 @@ use Rattle.run.specs.Order.{read_order}
 use Rattle.run.specs.WriteLaws.{drop-put, take-put}
 use Rattle.run.specs.declared.settings.Settings.{Settings}
 use Rattle.run.specs.declared.order.Places.{Places}
-use Rattle.run.specs.declared.order.Read.TheVariants.{Refused, Order}
+use Rattle.run.specs.Order.{Refused, Order}
 use Rattle.order_forms.specs.Spelling.{spelled_of, ascending, said_by, ends_at, refused, refused_at, AfterSpelling, spelling_read, spelling}
 use Rattle.order_forms.specs.OneSpelling.{Octets, one_spelling}
 use Rattle.order_forms.specs.SpelledRead.{spelled_read}

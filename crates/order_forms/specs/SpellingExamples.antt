@@ -8,7 +8,7 @@ use Rattle.vectors.specs.Memory.{put}
 use Rattle.run.specs.Bytes.{little, float_at}
 use Rattle.run.specs.Order.{is_known, operand_size, switch_of, command_of, is_cut, command_at, next_at, places, noted, begun, complete}
 use Rattle.run.specs.Order.{setting_fault, begin_fault, unless_begun, command_fault, settings_at, unless_fault, ended, order_from, read_order}
-use Rattle.run.specs.declared.order.Read.TheVariants.{Order}
+use Rattle.run.specs.Order.{Order}
 use Rattle.order_forms.specs.Spelling.{spelled_of, ends_at, refused, refused_at, spelling_read, spelling, bytes_at}
 
 -- the settings the other way round, level 99, two NaNs with payloads, advances of 0 and 67305985

@@ -6,10 +6,8 @@ use Rattle.run.specs.Bytes.{byte_at}
 use Rattle.run.specs.Order.{places, read_order}
 use Rattle.run.specs.OrderLaws.{Stands, Operands, read_settings}
 use Rattle.run.specs.declared.settings.Settings.{Settings}
-use Rattle.run.specs.declared.order.Command.{Command}
-use Rattle.run.specs.declared.order.Command.TheVariants.{Amplitude, Level, MaxTime, Interval, DxLevel, Skip}
+use Rattle.run.specs.Order.{Command, Amplitude, Level, MaxTime, Interval, DxLevel, Skip, Order}
 use Rattle.run.specs.declared.order.Places.{Places}
-use Rattle.run.specs.declared.order.Read.TheVariants.{Order}
 use Rattle.order_forms.specs.OrderShape.{order_length, ascending_places, begin_byte, end_byte}
 use Rattle.order_forms.specs.Spelling.{spelled_of, ascending, bytes_at}
 use Rattle.claims.specs.OrderFaults.{kind}

@@ -1,68 +1,39 @@
 // 02, request 2: one spelling for each order.
-ghost use Rattle.std.specs.Prelude.{◌+◌, ◌*◌, ◌≡◌, length};
+ghost use Rattle.std.specs.Prelude.{◌+◌, ◌≡◌, ◌≤◌, ◌∷◌, length};
 ghost use Rattle.run.specs.WriteLaws.{Wrote};
-ghost use Rattle.order_forms.specs.Spelling.{bytes_at, spelled_of, after_spelling, spelling};
-ghost use Rattle.order_forms.specs.Writing.{Fits, Copies, command_bytes, first_three, last_three, calls};
+ghost use Rattle.order_forms.specs.Spelling.{spelled_of, after_spelling, spelling};
+ghost use Rattle.order_forms.specs.Writing.{Fits};
+ghost use Rattle.order_forms.specs.declared.spelling.SpellError.TheVariants.{Faulty};
 
-use run::order::{Places, Read, read_order};
+use run::order::{Misread, Places, read_order};
 
-// 01's number and the position; too little room, which is 17; or where the order that was written ends.
-#[derive(Clone, Copy)]
-pub enum Spelled {
-    Refused(u8, usize),
+// Why an order is not spelled.
+#[derive(Clone, Copy, Debug, PartialEq, Eq)]
+pub enum SpellError {
+    // The order is refused: 1 to 4.
+    Faulty(Misread),
+    // Less room than the order has bytes: 17.
     NoRoom,
-    To(usize),
 }
 
-// Copies n bytes as they stand.
-fn copy(input: &[u8], from: usize, n: usize, out: &mut [u8], at: usize)
-    requires { Copies from n (length input.now) at (length out.old) }
-    ensures { Wrote at (bytes_at n input.now from) out.old out.new }
-{
-    let mut i = 0;
-    while i < n {
-        out[at + i] = input[from + i];
-        i += 1;
+impl From<Misread> for SpellError {
+    ghost from_gives = { λ misread error. error ≡ Faulty misread };
+
+    fn from(misread: Misread) -> SpellError {
+        SpellError::Faulty(misread)
     }
 }
 
-// A command byte and its operand's n bytes.
-fn put_command(code: u8, input: &[u8], from: usize, n: usize, out: &mut [u8], at: usize)
-    requires { Copies from n (length input.now) (at + 1) (length out.old) }
-    ensures { Wrote at (command_bytes code n input.now from) out.old out.new }
+// A command byte and its operand. Answers where they end.
+fn put_command(code: u8, operand: &[u8], out: &mut [u8], at: usize) -> usize
+    requires { at + (1 + length operand.now) ≤ length out.old }
+    ensures { (result ≡ at + (1 + length operand.now)) × Wrote at (code ∷ operand.now) out.old out.new }
 {
+    let from = at + 1;
+    let end = from + operand.len();
     out[at] = code;
-    copy(input, from, n, out, at + 1);
-}
-
-// 01 to 03.
-fn put_first_three(input: &[u8], p: Places, out: &mut [u8])
-    requires { Fits (length input.now) p (length out.old) }
-    ensures { Wrote 0 (first_three input.now p) out.old out.new }
-{
-    put_command(1, input, p.amplitude, 8, out, 0);
-    put_command(2, input, p.level, 1, out, 9);
-    put_command(3, input, p.max_time, 8, out, 11);
-}
-
-// 04 to 06.
-fn put_last_three(input: &[u8], p: Places, out: &mut [u8])
-    requires { Fits (length input.now) p (length out.old) }
-    ensures { Wrote 20 (last_three input.now p) out.old out.new }
-{
-    put_command(4, input, p.interval, 8, out, 20);
-    put_command(5, input, p.dx_level, 1, out, 29);
-    put_command(6, input, p.skip, 1, out, 31);
-}
-
-// 07, the advances and 09.
-fn put_calls(input: &[u8], p: Places, out: &mut [u8])
-    requires { Fits (length input.now) p (length out.old) }
-    ensures { Wrote 33 (calls (5 * p.count) input.now p.advances) out.old out.new }
-{
-    let n = 5 * p.count;
-    put_command(7, input, p.advances, n, out, 33);
-    out[34 + n] = 9;
+    out[from..end].copy_from_slice(operand);
+    end
 }
 
 // The whole order with its settings as 01 to 06.
@@ -70,25 +41,26 @@ fn put_order(input: &[u8], p: Places, out: &mut [u8])
     requires { Fits (length input.now) p (length out.old) }
     ensures { Wrote 0 (spelled_of input.now p) out.old out.new }
 {
-    put_first_three(input, p, out);
-    put_last_three(input, p, out);
-    put_calls(input, p, out);
+    let n = 5 * p.count;
+    let level = put_command(1, &input[p.amplitude..p.amplitude + 8], out, 0);
+    let max_time = put_command(2, &input[p.level..p.level + 1], out, level);
+    let interval = put_command(3, &input[p.max_time..p.max_time + 8], out, max_time);
+    let dx_level = put_command(4, &input[p.interval..p.interval + 8], out, interval);
+    let skip = put_command(5, &input[p.dx_level..p.dx_level + 1], out, dx_level);
+    let begin = put_command(6, &input[p.skip..p.skip + 1], out, skip);
+    let end = put_command(7, &input[p.advances..p.advances + n], out, begin);
+    out[end] = 9;
 }
 
-// Writes the order's spelling into lent bytes, from the first on.
-pub fn spell(input: &[u8], out: &mut [u8]) -> Spelled
+// Writes the order's spelling into lent bytes, from the first on. Answers where it ends.
+pub fn spell(input: &[u8], out: &mut [u8]) -> Result<usize, SpellError>
     ensures { after_spelling result out.new ≡ spelling input.now out.old }
 {
-    let read = read_order(input);
-    match read {
-        Read::Refused(number, position) => Spelled::Refused(number, position),
-        Read::Order(_, places) => {
-            let size = input.len();
-            if out.len() < size {
-                return Spelled::NoRoom;
-            }
-            put_order(input, places, out);
-            Spelled::To(size)
-        }
+    let order = read_order(input)?;
+    let size = input.len();
+    if out.len() < size {
+        return Err(SpellError::NoRoom);
     }
+    put_order(input, order.places, out);
+    Ok(size)
 }

@@ -8,7 +8,7 @@ use Rattle.vectors.specs.Dissipation.{radial_correction_of, half_dissipation_at,
 use Rattle.vectors.specs.Grid.{points_of, spacing_of, point_of}
 use Rattle.vectors.specs.Memory.{tab, part, put}
 use Rattle.vectors.specs.MemoryLaws.{length_tab, Filled, Grown, filled_none, filled_put, apart, get_d_tab, filled_part, lent, length_part}
-use Rattle.vectors.specs.RowSums.{sum7hollow}
+use Rattle.vectors.specs.RowSums.{hollow_sum}
 use Rattle.vectors.specs.Stencil.{diff2_of, diff3_at, diff3_row}
 use Rattle.vectors.specs.StencilLaws.{Window, window_left, window_inner, window_right, diff3_by, eight}
 use Rattle.physics.specs.Equations.{dt_field_of, dt_conj_momentum_of, dt_alternate_mass_of}
@@ -43,7 +43,7 @@ length-half_on c xs = length_tab (length xs) (half_val c xs)
 
 -- a third difference that code takes over a part from from on that it lends while it fills the part from to on, in memory xs that was E
 pub third_in : {i to : ℕ} {E xs : List Float} {g : ℕ → Float} {r : Float} (n from back : ℕ) → Filled to i g E xs → i < n → apart to n from n ≡ true → from + n ≤ length xs → Window n i back
-    → r ≡ sum7hollow diff3_row.weights (take (from + n - from) (drop from xs)) (i - back) → div binary64 r eight ≡ diff3_at (part from n E) i
+    → r ≡ hollow_sum diff3_row.weights (take (from + n - from) (drop from xs)) (i - back) → div binary64 r eight ≡ diff3_at (part from n E) i
 third_in {i} {xs = xs} n from back F l far h W q =
     let same = filled_part n from n nan F (omega arith) far in
     let long = ap length (sym same) ∙ length_part from n xs h in

@@ -5,7 +5,7 @@ use Rattle.std.proofs.Common.{◌∙◌}
 use native.Mathlib.Omega.{arith}
 use Rattle.std.specs.Float.Ieee.{binary64, add, sub, mul, div}
 use Rattle.vectors.specs.Constants.{whole}
-use Rattle.vectors.specs.Stencil.{plus, total}
+use Rattle.vectors.specs.Stencil.{total}
 use Rattle.physics.specs.Integral.{simpson_over, eighths_over, integral_at}
 use Rattle.physics.specs.IntegralLaws.{integral_by}
 use Rattle.physics.specs.Quadrature.{Quadrature, entry1_weights, simpson_weights, eighths_weights, entry1_rule, simpson_rule, eighths_rule}
@@ -29,22 +29,22 @@ module _ (h : Float) (v : List Float) where
 
   -- entries 1 and 2, where the spans of their rules end, are those rules from point 0 on
   pub entry_1 : integral_at h v entry1_rule.span ≡ rule_from entry1_rule h v 0
-  unfolding integral_at rule_from weighed_sum weighed_from total plus sub entry1_rule entry1_weights
+  unfolding integral_at rule_from weighed_sum weighed_from total sub entry1_rule entry1_weights
   entry_1 = refl
 
   pub entry_2 : integral_at h v simpson_rule.span ≡ rule_from simpson_rule h v 0
-  unfolding integral_at rule_from weighed_sum weighed_from total plus simpson_rule simpson_weights
+  unfolding integral_at rule_from weighed_sum weighed_from total simpson_rule simpson_weights
   entry_2 = refl
 
   simpson_from : (i : ℕ) → 2 ≤ i → simpson_over h v i ≡ rule_from simpson_rule h v (i - 2)
-  unfolding rule_from weighed_sum weighed_from total plus simpson_rule simpson_weights
+  unfolding rule_from weighed_sum weighed_from total simpson_rule simpson_weights
   simpson_from i l =
       let p : suc (i - 2) ≡ i - 1 = omega arith in
       let q : suc (suc (i - 2)) ≡ i = omega arith in
       rw (q, p)
 
   eighths_from : (i : ℕ) → 3 ≤ i → eighths_over h v i ≡ rule_from eighths_rule h v (i - 3)
-  unfolding rule_from weighed_sum weighed_from total plus eighths_rule eighths_weights
+  unfolding rule_from weighed_sum weighed_from total eighths_rule eighths_weights
   eighths_from i l =
       let p : suc (i - 3) ≡ i - 2 = omega arith in
       let q : suc (suc (i - 3)) ≡ i - 1 = omega arith in

@@ -1,11 +1,11 @@
 -- 01, "Plain run": "a NaN in its time or any of its eight vectors". Definitions only.
-use Rattle.std.specs.Prelude.{Bool, false, ◌||◌, List, [], ◌∷◌, is_nan, Float}
+use Rattle.std.specs.Prelude.{Bool, ◌||◌, List, is_nan, Float}
+use Rattle.std.specs.List.{list_any}
 use Rattle.physics.specs.State.{State}
 
 -- some number of the list is a NaN
 unfoldable pub holds_nan : List Float → Bool
-holds_nan [] = false
-holds_nan (x ∷ xs) = is_nan x || holds_nan xs
+holds_nan xs = list_any is_nan xs
 
 unfoldable pub state_has_nan : State → Bool
 state_has_nan s =

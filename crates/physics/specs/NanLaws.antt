@@ -1,7 +1,7 @@
 -- Laws of the NaN tests: of a state's layout, of two lists, and of a number compared with itself.
-use Rattle.std.specs.Prelude.{◌≡◌, ℕ, ◌*◌, true, false, ◌||◌, List, [], ◌∷◌, ◌++◌, take, ◌==◌, refl, Float}
+use Rattle.std.specs.Prelude.{◌≡◌, ℕ, ◌*◌, true, false, ◌||◌, List, ◌++◌, take, ◌==◌, refl, Float}
 use Rattle.std.proofs.Common.{sym, ap, ◌∙◌, eq-eqb}
-use Rattle.std.proofs.Math.Bool.{or_assoc}
+use Rattle.std.proofs.lemmas.List.Folds.{list_any-append}
 use Rattle.std.specs.Float.{nan, inf, fin}
 use Rattle.std.specs.Float.Ieee.{up, down, ne, is_nan}
 use Rattle.physics.specs.State.{State, lay_out, state_in}
@@ -10,8 +10,7 @@ use Rattle.physics.specs.Nan.{holds_nan, state_has_nan, any_nan}
 
 pub holds_nan-append : (xs ys : List Float) → holds_nan (xs ++ ys) ≡ (holds_nan xs || holds_nan ys)
 unfolding holds_nan
-holds_nan-append [] ys = refl
-holds_nan-append (x ∷ xs) ys = rw (holds_nan-append xs ys, or_assoc)
+holds_nan-append xs ys = list_any-append is_nan xs ys
 
 -- of a state as a memory holds it
 pub any_nan-lay_out : (s : State) → any_nan s.time (lay_out s) ≡ state_has_nan s

@@ -5,7 +5,7 @@ use Rattle.std.specs.Float.Ieee.{add, mul, div}
 use Rattle.vectors.specs.Constants.{whole, nearest_to}
 use Rattle.vectors.specs.Grid.{points_of}
 use Rattle.vectors.specs.Memory.{tab}
-use Rattle.vectors.specs.Stencil.{plus, total}
+use Rattle.vectors.specs.Stencil.{total}
 use Rattle.physics.specs.Equations.{Equations, equations_of, bounded_of}
 use Rattle.physics.specs.State.{State}
 use Rattle.physics.specs.Rk4.{stored_constraints, state_of, stage_of, weighted_sum_of, rk4_of}
@@ -67,5 +67,5 @@ tableau_step level delta s =
     (step_by n delta s.alternate_mass (map (λ (u : Equations). u.dt_alternate_mass) us))
 
 pub rk4_is_tableau : (level : ℕ) (delta : Float) (s : State) → rk4_of level delta s ≡ tableau_step level delta s
-unfolding rk4_of tableau_step step_by rates_by stage_by couplings_from weighed_sum weighed_from total plus stage_couplings stage_weights sum weighted_sum_of
+unfolding rk4_of tableau_step step_by rates_by stage_by couplings_from weighed_sum weighed_from total stage_couplings stage_weights sum weighted_sum_of
 rk4_is_tableau level delta s = refl

@@ -1,15 +1,18 @@
 -- A state that was made in a part of work memory.
-use Rattle.std.specs.Prelude.{◌≡◌, ℕ, suc, ◌+◌, ◌-◌, ◌*◌, ◌%◌, ◌^◌, ◌≤◌, List, length, take, drop, nat_le, refl, Float}
-use Rattle.std.proofs.Common.{sym, ap, ◌∙◌, subst, arith, leb-true, length-take, length-drop, ext_get_or, get_or-take, get_or-drop}
+use Rattle.std.specs.Prelude.{◌≡◌, Bool, true, ℕ, suc, ◌+◌, ◌-◌, ◌*◌, ◌%◌, ◌^◌, ◌≤◌, List, length, take, drop, nat_le, refl, Float, Result}
+use Rattle.std.proofs.Common.{sym, ap, ◌∙◌, subst, arith, le-leb, leb-true, take-take, length-take, length-drop, ext_get_or, get_or-take, get_or-drop}
 use borrow.Rule.Slice.PartMut.{put_mid}
 use Rattle.std.specs.Float.{nan, binary64}
 use Rattle.std.specs.Float.Ieee.{add}
-use Rattle.vectors.specs.FaultLaws.{accepted, and_true}
+use Rattle.std.proofs.lemmas.Bool.{and_parts}
+use Rattle.vectors.specs.declared.answer.Refusal.{Refusal}
+use Rattle.vectors.specs.Answer.{number_of, left_by}
+use Rattle.vectors.specs.FaultLaws.{accepted, fault_none, left_accepted}
 use Rattle.vectors.specs.Fault.{fault_of}
 use Rattle.vectors.specs.Grid.{points_of}
 use Rattle.vectors.specs.GridLaws.{Level, points_in, points_least}
 use Rattle.vectors.specs.Memory.{part, put}
-use Rattle.vectors.specs.MemoryLaws.{back, length-put, length_part, get_d_part, get_d_put_in, get_d_put_above}
+use Rattle.vectors.specs.MemoryLaws.{back, lent, length-put, length_part, get_d_part, get_d_put_in, get_d_put_above}
 use Rattle.physics.specs.Rk4.{state_of, rk4_of}
 use Rattle.physics.specs.SlotNumbers.{slot_count, slots_start, slots_end}
 use Rattle.physics.specs.Slots.{Slots, slots, Became}
@@ -18,7 +21,8 @@ use Rattle.physics.specs.StepLaws.{state_of_slots, step_is, slots_front}
 use Rattle.physics.specs.StepPasses.{steps}
 use Rattle.physics.specs.Stepped.{room_to_step}
 use Rattle.physics.specs.Passes.{grids}
-use Rattle.physics.specs.WorkAfter.{Made}
+use Rattle.physics.specs.Store.{both_hold, stored_of}
+use Rattle.physics.specs.WorkAfter.{WorkAfter, Made}
 
 -- ---- what an accepted call knows
 
@@ -48,7 +52,7 @@ pub record RoomToStep (level s w : ℕ) : Type 0 where
 pub room_to_step_lem : (level state work : ℕ) → 0 ≡ fault_of level (room_to_step level state work) → RoomToStep level state work
 room_to_step_lem level state work e =
     let g = accepted level (room_to_step level state work) e in
-    let h = and_true (nat_le (8 * points_of level) state) (nat_le (40 * points_of level) work) g.fitting in
+    let h = and_parts (nat_le (8 * points_of level) state) (nat_le (40 * points_of level) work) g.fitting in
     record { ranged = g.ranged; state = leb-true (8 * points_of level) state h.0; work = leb-true (40 * points_of level) work h.1 }
 
 -- ---- memory around the part
@@ -112,3 +116,34 @@ stepped_made level n time delta state work w' p h B =
     let e : state_of_slots next.time (slots n w') ≡ next =
     ap (λ (t : Float). state_of_slots t (slots n w')) (sym (stepped_time_lem level time delta state)) ∙ step_state level n time delta state _ w' p B in
     made_in level n next _ work w' p h B e
+
+-- ---- what a call that nothing refuses leaves
+
+pub made_accepted : (level number : ℕ) (fits : Bool) (s : State) (work after : List Float) → Level level → fits ≡ true → number ≡ fault_of level fits
+    → WorkAfter number level s work after → Made level s work after
+made_accepted level number fits s work after l f e made = subst (λ (k : ℕ). WorkAfter k level s work after) (e ∙ sym (fault_none level fits l f)) made
+
+-- the state that was made, as code lends it
+pub lent_made : (level n : ℕ) (work : List Float) → n ≡ points_of level → take (16 * n - 8 * n) (drop (8 * n) work) ≡ part (8 * points_of level) (8 * points_of level) work
+lent_made level n work is =
+    let here : take (16 * n - 8 * n) (drop (8 * n) work) ≡ part (8 * n) (8 * n) work = lent (8 * n) (16 * n) (8 * n) work (omega arith) in
+    here ∙ ap (λ (m : ℕ). part (8 * m) (8 * m) work) is
+
+pub take_made : (level : ℕ) (work : List Float) → let size = 8 * points_of level in take size (part size size work) ≡ part size size work
+unfolding part
+take_made level work = let size = 8 * points_of level in take-take size size (drop size work) (omega arith)
+
+-- the state that was made, stored in state memory
+pub stored_made : {A : Type 0} (level n : ℕ) (answer : Result A Refusal) (work state after : List Float) → RoomToStep level (length state) (length work) → n ≡ points_of level
+    → number_of answer ≡ fault_of level (both_hold level (length (take (16 * n - 8 * n) (drop (8 * n) work))) (length state))
+    → after ≡ left_by answer (stored_of (points_of level) (take (16 * n - 8 * n) (drop (8 * n) work)) state) state
+    → after ≡ put 0 (part (8 * points_of level) (8 * points_of level) work) state
+stored_made level n answer work state after room is number left =
+    let size = 8 * points_of level in
+    let from = take (16 * n - 8 * n) (drop (8 * n) work) in
+    let same : from ≡ part size size work = lent_made level n work is in
+    let long : length from ≡ size = ap length same ∙ length_part size size work (omega (arith, room.work)) in
+    let held : both_hold level (length from) (length state) ≡ true = rw (le-leb size (length from) (omega arith), le-leb size (length state) room.state) in
+    left
+    ∙ left_accepted level _ answer (stored_of (points_of level) from state) state room.ranged held number
+    ∙ ap (λ (l : List Float). put 0 l state) (ap (take size) same ∙ take_made level work)

@@ -19,7 +19,7 @@ use vectors::exp::exp_all;
 use vectors::field_vector::reciprocal;
 use vectors::grid::delta;
 use vectors::rows::{
-    DIFF_INNER, DIFF_LEFT0, DIFF_LEFT1, DIFF_RIGHT0, DIFF_RIGHT1, row5, row5_hollow,
+    DIFF_INNER, DIFF_LEFT0, DIFF_LEFT1, DIFF_RIGHT0, DIFF_RIGHT1, row, row_hollow,
 };
 
 // The constraints that the equations of motion read, and the gradient, from field and momentum. The scratch and the integral slot are used.
@@ -43,10 +43,10 @@ pub(crate) fn compute_radial_gradient(h: f64, n: usize, w: &mut [f64])
     let end = slots::MOMENTUM * n;
     let to = slots::GRADIENT * n;
     let v = &w[field..end];
-    let left0 = row5(DIFF_LEFT0, v, 0) / d;
-    let left1 = row5(DIFF_LEFT1, v, 0) / d;
-    let right1 = row5(DIFF_RIGHT1, v, n - 5) / d;
-    let right0 = row5(DIFF_RIGHT0, v, n - 5) / d;
+    let left0 = row(DIFF_LEFT0, v, 0) / d;
+    let left1 = row(DIFF_LEFT1, v, 0) / d;
+    let right1 = row(DIFF_RIGHT1, v, n - 5) / d;
+    let right0 = row(DIFF_RIGHT0, v, n - 5) / d;
     store_ends(to, n, left0, left1, right1, right0, w);
     radial_gradient_inner(h, n, w);
 }
@@ -64,7 +64,7 @@ fn radial_gradient_inner(h: f64, n: usize, w: &mut [f64])
     let to = slots::GRADIENT * n;
     let mut i = 2;
     while i < n - 2 {
-        w[to + i] = row5_hollow(DIFF_INNER, &w[field..end], i - 2) / d;
+        w[to + i] = row_hollow(DIFF_INNER, &w[field..end], i - 2) / d;
         i += 1;
     }
 }

@@ -18,8 +18,7 @@ use crate::slots::store_ends;
 use vectors::constants::DISSIPATION_FACTOR;
 use vectors::grid::delta;
 use vectors::rows::{
-    DIFF2_EDGE0, DIFF2_EDGE1, DIFF2_INNER, DIFF3, NEUMANN, row4, row5, row6, row6_descending,
-    row7_hollow,
+    DIFF2_EDGE0, DIFF2_EDGE1, DIFF2_INNER, DIFF3, NEUMANN, row, row_descending, row_hollow,
 };
 
 // The rates: the time derivatives of field, momentum and alternate mass, from these, the constraints and the gradient. The scratch slot and the half
@@ -85,7 +84,7 @@ fn half_dissipation_run(
     while i < hi {
         w[to + i] = third_difference_times(
             w[correction + i],
-            row7_hollow(DIFF3, &w[from..end], i - back),
+            row_hollow(DIFF3, &w[from..end], i - back),
         );
         i += 1;
     }
@@ -107,10 +106,10 @@ fn second_difference(h: f64, n: usize, w: &mut [f64])
     let end = slots::MOMENTUM * n;
     let to = slots::SCRATCH * n;
     let v = &w[field..end];
-    let left0 = row6(DIFF2_EDGE0, v, 0) / d;
-    let left1 = row6(DIFF2_EDGE1, v, 0) / d;
-    let right1 = row6_descending(DIFF2_EDGE1, v, n - 6) / d;
-    let right0 = row6_descending(DIFF2_EDGE0, v, n - 6) / d;
+    let left0 = row(DIFF2_EDGE0, v, 0) / d;
+    let left1 = row(DIFF2_EDGE1, v, 0) / d;
+    let right1 = row_descending(DIFF2_EDGE1, v, n - 6) / d;
+    let right0 = row_descending(DIFF2_EDGE0, v, n - 6) / d;
     store_ends(to, n, left0, left1, right1, right0, w);
     second_difference_inner(h, n, w);
 }
@@ -128,7 +127,7 @@ fn second_difference_inner(h: f64, n: usize, w: &mut [f64])
     let to = slots::SCRATCH * n;
     let mut i = 2;
     while i < n - 2 {
-        w[to + i] = row5(DIFF2_INNER, &w[field..end], i - 2) / d;
+        w[to + i] = row(DIFF2_INNER, &w[field..end], i - 2) / d;
         i += 1;
     }
 }
@@ -184,7 +183,7 @@ fn dissipation_run(
     let end = from + n;
     let mut i = lo;
     while i < hi {
-        w[to + i] = third_difference_times(scale, row7_hollow(DIFF3, &w[from..end], i - back));
+        w[to + i] = third_difference_times(scale, row_hollow(DIFF3, &w[from..end], i - back));
         i += 1;
     }
 }
@@ -318,7 +317,7 @@ fn set_bcs(n: usize, at: usize, w: &mut [f64])
     ensures { w.new ≡ put at (bounded_of (part at n w.old)) w.old }
 {
     let end = at + n;
-    let left = row4(NEUMANN, &w[at..end], 1) / 25.0;
+    let left = row(NEUMANN, &w[at..end], 1) / 25.0;
     w[at] = left;
     w[at + (n - 1)] = 0.0;
 }

@@ -1,5 +1,6 @@
 // `rk4_step` and `integrate` of integration.rs, in the slots of slots.rt.
 ghost use Rattle.std.specs.Prelude.{◌≡◌, ◌+◌, ◌*◌, ◌<◌, ◌≤◌, length};
+ghost use Rattle.std.specs.Result.{result_ok};
 ghost use Rattle.vectors.specs.Answer.{number_of};
 ghost use Rattle.vectors.specs.Fault.{fault_of};
 ghost use Rattle.vectors.specs.Grid.{points_of};
@@ -11,7 +12,7 @@ ghost use Rattle.physics.specs.SlotNumbers.{scratch_slot};
 ghost use Rattle.physics.specs.Slots.{slots, Became};
 ghost use Rattle.physics.specs.Passes.{Room, Target, grids};
 ghost use Rattle.physics.specs.StepPasses.{States, ReadyStep, loads_variables, loads_constraints, begins, doubles, first_stages, moves, forms, stages, doubled_stages, ends, lasts, steps};
-ghost use Rattle.physics.specs.Stepped.{stepped_number, stepped_time, time_after, room_to_step};
+ghost use Rattle.physics.specs.Stepped.{time_after, room_to_step};
 ghost use Rattle.physics.specs.State.{state_in};
 ghost use Rattle.physics.specs.WorkAfter.{WorkAfter};
 
@@ -21,44 +22,39 @@ use crate::constraint_computer::{
 use crate::equations::{apply_bcs, equations_of_motion};
 use crate::slots;
 use crate::slots::{add_scaled, advance, advance_by_sum, copy_vector, copy_within, fill_grid};
-use vectors::answer::{Answer, and_also, checked};
+use vectors::answer::{Refusal, checked};
 use vectors::grid::{delta as spacing, length_at_discretization};
 
-// `stepped_number` and `stepped_time` in specs/Stepped.antt give each case the number that document 01 has for it, and the next time.
-#[derive(Clone, Copy)]
-pub enum Stepped {
-    To(f64),
-    RefusedLevel,
-    RefusedLength,
-}
-
 // Performs a Runge-Kutta 4th order time step: the next state's vectors are left in numbers 8n to 16n of work memory.
-pub fn rk4_step(level: u32, time: f64, delta: f64, state: &[f64], work: &mut [f64]) -> Stepped
-    ensures { (stepped_number result ≡ fault_of level (room_to_step level (length state.now) (length work.old)))
-        × (stepped_time result ≡ time_after (stepped_number result) (rk4_of level delta (state_in (points_of level) time state.now)).time)
-        × WorkAfter (stepped_number result) level (rk4_of level delta (state_in (points_of level) time state.now)) work.old work.new }
+#[tactic(auto, using(vectors::specs::GridLaws::points_bound))]
+pub fn rk4_step(
+    level: u32,
+    time: f64,
+    delta: f64,
+    state: &[f64],
+    work: &mut [f64],
+) -> Result<f64, Refusal>
+    ensures refused { number_of result ≡ fault_of level (room_to_step level (length state.now) (length work.old)) }
+    ensures time { result_ok result ≡ time_after (number_of result) (rk4_of level delta (state_in (points_of level) time state.now)).time }
+    ensures made { WorkAfter (number_of result) level (rk4_of level delta (state_in (points_of level) time state.now)) work.old work.new }
 {
-    let answer = checked_room(level, state.len(), work.len());
-    match answer {
-        Answer::Done => {
-            let n = length_at_discretization(level);
-            let start = slots::START * n;
-            let end = slots::END * n;
-            advance_state(level, n, delta, state, &mut work[start..end]);
-            Stepped::To(time + delta)
-        }
-        Answer::RefusedLevel => Stepped::RefusedLevel,
-        Answer::RefusedLength => Stepped::RefusedLength,
-    }
+    checked_room(level, state.len(), work.len())?;
+    let n = length_at_discretization(level);
+    let start = slots::START * n;
+    let end = slots::END * n;
+    advance_state(level, n, delta, state, &mut work[start..end]);
+    Ok(time + delta)
 }
 
-fn checked_room(level: u32, state: usize, work: usize) -> Answer
+// The answer to a call that takes a step, by the lengths of state memory and work memory.
+#[tactic(auto, using(vectors::specs::GridLaws::points_bound))]
+pub fn checked_room(level: u32, state: usize, work: usize) -> Result<(), Refusal>
     ensures { number_of result ≡ fault_of level (room_to_step level state work) }
 {
     let n = length_at_discretization(level);
     checked(
         level,
-        and_also(slots::VECTORS * n <= state, slots::WORK * n <= work),
+        slots::VECTORS * n <= state && slots::WORK * n <= work,
     )
 }
 
@@ -169,7 +165,7 @@ fn move_variables(n: usize, c: f64, state: &[f64], w: &mut [f64])
     let variables = slots::FIELD * n;
     let end = slots::ALTERNATE_MASS * n;
     let rates = slots::DT_FIELD * n;
-    advance(&state[variables..end], c, rates, variables, 2 * n, w);
+    advance(&state[variables..end], c, rates, variables, w);
 }
 
 // To the first slots: the state that is c along the sums, with the last rates added to them.
@@ -190,7 +186,7 @@ fn next_variables(n: usize, c: f64, state: &[f64], w: &mut [f64])
     let end = slots::ENERGY_DENSITY * n;
     let rates = slots::DT_FIELD * n;
     let sums = slots::FIELD_SUM * n;
-    advance_by_sum(&state[variables..end], c, sums, rates, variables, 3 * n, w);
+    advance_by_sum(&state[variables..end], c, sums, rates, variables, w);
 }
 
 fn quadratic_over(h: f64, v: &[f64]) -> f64

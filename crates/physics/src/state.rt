@@ -1,5 +1,5 @@
 // From domain/state.rs: `total_energy`. With it what a run does with a state that a memory holds: look for a NaN, and store it.
-ghost use Rattle.std.specs.Prelude.{◌≡◌, ◌≤◌, ◌||◌, length, take};
+ghost use Rattle.std.specs.Prelude.{◌≡◌, ◌≤◌, length, take};
 ghost use Rattle.vectors.specs.Answer.{number_of, left_by};
 ghost use Rattle.vectors.specs.Fault.{fault_of};
 ghost use Rattle.vectors.specs.Grid.{points_of};
@@ -9,68 +9,46 @@ ghost use Rattle.physics.specs.Store.{both_hold, stored_of};
 ghost use Rattle.physics.specs.TotalEnergy.{last_of};
 
 use crate::slots;
-use vectors::answer::{Answer, and_also, checked};
+use vectors::answer::{Refusal, checked};
 use vectors::grid::length_at_discretization;
 
 // The total energy: the last number of the mass, NaN where there is none.
 pub fn total_energy(mass: &[f64]) -> f64
     ensures { result ≡ last_of mass.now }
 {
-    if 0 < mass.len() {
-        return mass[mass.len() - 1];
-    }
-    0.0 / 0.0
+    mass.last().copied().unwrap_or(f64::NAN)
 }
 
-// Whether the time or a number of the vectors is a NaN, the one value that differs from itself.
+// Whether the time or a number of the vectors is a NaN, with no branch on the way.
+#[tactic(auto, unfolding(crate::specs::Nan::any_nan, crate::specs::Nan::holds_nan))]
 pub fn has_nan(time: f64, vectors: &[f64]) -> bool
     ensures { result ≡ any_nan time vectors.now }
 {
-    let mut found = time != time;
-    let mut i = 0;
-    while i < vectors.len() {
-        let x = vectors[i];
-        found = or_else(found, x != x);
-        i += 1;
+    let mut found = time.is_nan();
+    for x in vectors {
+        found |= x.is_nan();
     }
     found
 }
 
-// Whether x or y holds, with no branch left to the caller.
-fn or_else(x: bool, y: bool) -> bool
-    ensures { result ≡ (x || y) }
-{
-    if x {
-        return true;
-    }
-    y
-}
-
 // Stores a state that is laid out at the front of `from`.
-pub fn store(level: u32, from: &[f64], state: &mut [f64]) -> Answer
-    ensures { (number_of result ≡ fault_of level (both_hold level (length from.now) (length state.old)))
-        × (state.new ≡ left_by result (stored_of (points_of level) from.now state.old) state.old) }
+#[tactic(auto, using(vectors::specs::GridLaws::points_bound))]
+pub fn store(level: u32, from: &[f64], state: &mut [f64]) -> Result<(), Refusal>
+    ensures refused { number_of result ≡ fault_of level (both_hold level (length from.now) (length state.old)) }
+    ensures left { state.new ≡ left_by result (stored_of (points_of level) from.now state.old) state.old }
 {
     let count = slots::VECTORS * length_at_discretization(level);
-    let answer = checked(level, and_also(count <= from.len(), count <= state.len()));
-    match answer {
-        Answer::Done => {
-            copy(count, from, state);
-            Answer::Done
-        }
-        Answer::RefusedLevel => Answer::RefusedLevel,
-        Answer::RefusedLength => Answer::RefusedLength,
-    }
+    checked(level, count <= from.len() && count <= state.len())?;
+    copy(count, from, state);
+    Ok(())
 }
 
-// Copies the first count numbers; what follows them stays.
+// Copies the first count numbers; what follows them stays. A loop, as `copy_vector` in slots.rt is.
 fn copy(count: usize, from: &[f64], state: &mut [f64])
     requires { (count ≤ length from.now) × (count ≤ length state.old) }
     ensures { state.new ≡ put 0 (take count from.now) state.old }
 {
-    let mut at = 0;
-    while at < count {
-        state[at] = from[at];
-        at += 1;
+    for (i, x) in from[..count].iter().enumerate() {
+        state[i] = *x;
     }
 }

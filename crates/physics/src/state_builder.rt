@@ -15,7 +15,7 @@ ghost use Rattle.physics.specs.WorkAfter.{WorkAfter};
 use crate::constraint_computer::compute_all_constraints;
 use crate::slots;
 use crate::slots::{copy_within, fill_grid};
-use vectors::answer::{Answer, checked};
+use vectors::answer::{Refusal, checked};
 use vectors::constants::INITIAL_WAVE_STEEPNESS;
 use vectors::exp::exp_all;
 use vectors::field_vector::square;
@@ -26,25 +26,21 @@ use vectors::tan::tan;
 const PI: f64 = 3.14159265358979323846264338327950288;
 
 // Builds the initial state with a Gaussian wave profile: its vectors are left in numbers 8n to 16n of work memory.
-pub fn build_initial_state(level: u32, amplitude: f64, work: &mut [f64]) -> Answer
-    ensures { (number_of result ≡ fault_of level (room_to_build level (length work.old)))
-        × WorkAfter (number_of result) level (initial_state_of level amplitude) work.old work.new }
+#[tactic(auto, using(vectors::specs::GridLaws::points_bound))]
+pub fn build_initial_state(level: u32, amplitude: f64, work: &mut [f64]) -> Result<(), Refusal>
+    ensures refused { number_of result ≡ fault_of level (room_to_build level (length work.old)) }
+    ensures made { WorkAfter (number_of result) level (initial_state_of level amplitude) work.old work.new }
 {
-    let answer = checked_work(level, work.len());
-    match answer {
-        Answer::Done => {
-            let n = length_at_discretization(level);
-            let start = slots::START * n;
-            let end = slots::END * n;
-            build_state(level, n, amplitude, &mut work[start..end]);
-            Answer::Done
-        }
-        Answer::RefusedLevel => Answer::RefusedLevel,
-        Answer::RefusedLength => Answer::RefusedLength,
-    }
+    checked_work(level, work.len())?;
+    let n = length_at_discretization(level);
+    let start = slots::START * n;
+    let end = slots::END * n;
+    build_state(level, n, amplitude, &mut work[start..end]);
+    Ok(())
 }
 
-fn checked_work(level: u32, work: usize) -> Answer
+#[tactic(auto, using(vectors::specs::GridLaws::points_bound))]
+fn checked_work(level: u32, work: usize) -> Result<(), Refusal>
     ensures { number_of result ≡ fault_of level (room_to_build level work) }
 {
     let n = length_at_discretization(level);

@@ -3,7 +3,7 @@
 #![tactic(auto)]
 
 ghost use Rattle.std.specs.Prelude.{◌≡◌, ◌*◌, length};
-ghost use Rattle.vectors.specs.Answer.{number_of, left_at};
+ghost use Rattle.vectors.specs.Answer.{left_at};
 ghost use Rattle.vectors.specs.Fault.{fault_of};
 ghost use Rattle.vectors.specs.Grid.{points_of};
 ghost use Rattle.vectors.specs.Memory.{part, put};
@@ -14,10 +14,9 @@ ghost use Rattle.physics.specs.WorkAfter.{WorkAfter};
 ghost use Rattle.physics.specs.WorkLaws.{RoomToStep};
 ghost use Rattle.physics_c.specs.Next.{next_of};
 
-use physics::integration::{Stepped, rk4_step};
+use physics::integration::{checked_room, rk4_step};
 use physics::state::store;
 use physics::state_builder::build_initial_state;
-use vectors::answer::{Answer, and_also, checked};
 use vectors::grid::length_at_discretization;
 
 // The initial state, to state memory.
@@ -28,45 +27,30 @@ pub extern "C" fn physics_begin(
     state: &mut [f64],
     work: &mut [f64],
 ) -> u32
-    ensures { (result ≡ fault_of level (room_to_step level (length state.old) (length work.old)))
-        × (state.new ≡ left_at result (put 0 (lay_out (initial_state_of level amplitude)) state.old) state.old)
-        × WorkAfter result level (initial_state_of level amplitude) work.old work.new }
+    ensures refused { result ≡ fault_of level (room_to_step level (length state.old) (length work.old)) }
+    ensures kept { state.new ≡ left_at result (put 0 (lay_out (initial_state_of level amplitude)) state.old) state.old }
+    ensures made { WorkAfter result level (initial_state_of level amplitude) work.old work.new }
 {
-    let answer = checked_room(level, state.len(), work.len());
-    match answer {
-        Answer::Done => {
-            build_initial_state(level, amplitude, work);
-            keep(level, state, work);
-            0
-        }
-        Answer::RefusedLevel => 5,
-        Answer::RefusedLength => 11,
+    if let Err(refusal) = checked_room(level, state.len(), work.len()) {
+        return refusal.into();
     }
+    let _ = build_initial_state(level, amplitude, work);
+    keep(level, state, work);
+    0
 }
 
 // The state delta after the one in state memory, in its place.
 #[unsafe(no_mangle)]
 pub extern "C" fn physics_step(level: u32, delta: f64, state: &mut [f64], work: &mut [f64]) -> u32
-    ensures { (result ≡ fault_of level (room_to_step level (length state.old) (length work.old)))
-        × (state.new ≡ left_at result (put 0 (lay_out (next_of level delta state.old)) state.old) state.old)
-        × WorkAfter result level (next_of level delta state.old) work.old work.new }
+    ensures refused { result ≡ fault_of level (room_to_step level (length state.old) (length work.old)) }
+    ensures kept { state.new ≡ left_at result (put 0 (lay_out (next_of level delta state.old)) state.old) state.old }
+    ensures made { WorkAfter result level (next_of level delta state.old) work.old work.new }
 {
-    let stepped = rk4_step(level, 0.0, delta, state, work);
-    match stepped {
-        Stepped::To(time) => {
-            keep(level, state, work);
-            0
-        }
-        Stepped::RefusedLevel => 5,
-        Stepped::RefusedLength => 11,
+    if let Err(refusal) = rk4_step(level, 0.0, delta, state, work) {
+        return refusal.into();
     }
-}
-
-fn checked_room(level: u32, state: usize, work: usize) -> Answer
-    ensures { number_of result ≡ fault_of level (room_to_step level state work) }
-{
-    let n = length_at_discretization(level);
-    checked(level, and_also(8 * n <= state, 40 * n <= work))
+    keep(level, state, work);
+    0
 }
 
 // Stores the state that a call left in numbers 8n to 16n of work memory.
@@ -77,5 +61,5 @@ fn keep(level: u32, state: &mut [f64], work: &[f64])
     let n = length_at_discretization(level);
     let start = 8 * n;
     let end = 16 * n;
-    store(level, &work[start..end], state);
+    let _ = store(level, &work[start..end], state);
 }

@@ -1,42 +1,141 @@
-// States that no run has: random vectors, one of them replaced by wilder numbers.
-use cases::arguments;
+// One step from states that no run has: random vectors, one of them replaced by wilder numbers; and from times, and by
+// steps, that no run has.
+use crate::lines;
+use crate::memories::{STATE, WORK, base, points};
+use cases::arguments::{Range, after, argument};
+use physics::integration::rk4_step;
+use std::io;
+use vectors::bits::of_bits;
 
-// The eight vectors of a state. Vector 8, which is none of them, replaces nothing.
-pub fn forge(seed: u64, replaced: usize, vectors: &mut [f64]) {
-    let n = vectors.len() / 8;
-    for k in 0..8 {
-        let from = n * k;
-        let to = from + n;
-        let first = seed % 256 * 8 + k as u64;
-        vector(centre(k), range(k, replaced), first, &mut vectors[from..to]);
+// A state of the eight vectors that the seed gives, of which one is replaced, or none where it is the eighth.
+#[derive(Clone, Copy)]
+struct Forged {
+    level: u32,
+    seed: u64,
+    replaced: usize,
+}
+
+// Times, and steps over the base, as bits.
+#[rattlefmt::skip]
+const TIMES: [(u64, u64); 8] = [
+    (0x0000000000000000, 0x0000000000000000), (0x8000000000000000, 0x8000000000000000),
+    (0x400D99999999999A, 0xBFF0000000000000), (0x400D99999999999A, 0x0000000000000001),
+    (0x400D99999999999A, 0x7FF0000000000000), (0x400D99999999999A, 0x7FF8000000000000),
+    (0x7FF8000000000000, 0x3FF0000000000000), (0x7FF0000000000000, 0x3FF0000000000000),
+];
+
+pub fn levels(rt: &impl Print, state: &mut [f64; STATE], work: &mut [f64; WORK]) -> io::Result<()> {
+    for level in 5..=7 {
+        seeds(rt, level, state, work)?;
+    }
+    Ok(())
+}
+
+fn seeds(
+    rt: &impl Print,
+    level: u32,
+    state: &mut [f64; STATE],
+    work: &mut [f64; WORK],
+) -> io::Result<()> {
+    for seed in 1..=3 {
+        vectors(rt, level, seed, state, work)?;
+    }
+    Ok(())
+}
+
+fn vectors(
+    rt: &impl Print,
+    level: u32,
+    seed: u64,
+    state: &mut [f64; STATE],
+    work: &mut [f64; WORK],
+) -> io::Result<()> {
+    for replaced in 0..=8 {
+        print!(rt; "forged level {level} seed {seed} replaced {replaced}")?;
+        step(
+            rt,
+            Forged {
+                level,
+                seed,
+                replaced,
+            },
+            3.7,
+            1.0,
+            state,
+            work,
+        )?;
+    }
+    Ok(())
+}
+
+pub fn times(rt: &impl Print, state: &mut [f64; STATE], work: &mut [f64; WORK]) -> io::Result<()> {
+    for (time, factor) in TIMES {
+        print!(rt; "forged level 5 time {time:016x} factor {factor:016x}")?;
+        step(
+            rt,
+            Forged {
+                level: 5,
+                seed: 1,
+                replaced: 8,
+            },
+            of_bits(time),
+            of_bits(factor),
+            state,
+            work,
+        )?;
+    }
+    Ok(())
+}
+
+// The step is factor times the clock's base.
+fn step(
+    rt: &impl Print,
+    forged: Forged,
+    time: f64,
+    factor: f64,
+    state: &mut [f64; STATE],
+    work: &mut [f64; WORK],
+) -> io::Result<()> {
+    let level = forged.level;
+    let n = points(level);
+    let from = &mut state[..8 * n];
+    forge(forged, from);
+    let next = rk4_step(level, time, base(level) * factor, from, &mut work[..40 * n]).unwrap_or(
+        f64::NAN,
+    );
+    lines::state(rt, next, &work[8 * n..16 * n])
+}
+
+fn forge(forged: Forged, state: &mut [f64]) {
+    let n = state.len() / 8;
+    for (k, values) in state.chunks_exact_mut(n.max(1)).enumerate() {
+        fill(
+            centre(k),
+            range(k, forged.replaced),
+            forged.seed % 256 * 8 + k as u64,
+            values,
+        );
     }
 }
 
-// By the generator's states from the first on.
-fn vector(centre: f64, range: u32, first: u64, values: &mut [f64]) {
-    let mut s = first;
-    for i in 0..values.len() {
-        values[i] = centre + 0.0625 * arguments::argument(range, s);
-        s = arguments::after(s);
+fn fill(centre: f64, range: Range, seed: u64, values: &mut [f64]) {
+    let mut s = seed;
+    for x in values.iter_mut() {
+        *x = centre + 0.0625 * argument(range as u32, s);
+        s = after(s);
     }
 }
 
 // The first three vectors lie about 0, the others about 1.
 fn centre(k: usize) -> f64 {
-    if k < 3 {
-        return 0.0;
-    }
-    1.0
+    if k < 3 { 0.0 } else { 1.0 }
 }
 
-// Of the replaced vector -10 to 10, or any pattern where nothing but the vector itself is made of it; of the others
-// -1 to 1.
-fn range(k: usize, replaced: usize) -> u32 {
-    if k != replaced {
-        return 5;
-    }
+// A step doesn't read vectors 3 and 4, and nothing reads the alternate mass but itself: any pattern will do there.
+fn range(k: usize, replaced: usize) -> Range {
     match k {
-        2 | 3 | 4 => 0,
-        _ => 4,
+        _ if k != replaced => Range::Unit,
+        2..=4 => Range::Patterns,
+        _ => Range::Ten,
     }
 }

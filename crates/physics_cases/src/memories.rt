@@ -1,26 +1,22 @@
-// How much of a memory a case uses, and the clock's base.
-ghost use Rattle.std.specs.Prelude.{◌+◌, ◌≤◌};
+// The memories of the runs, how much of them a level uses, and the clock's base.
+ghost use Rattle.std.specs.Prelude.{◌≤◌};
 
-use vectors::grid::length_at_discretization;
+use vectors::constants::COURANT_NUMBER;
+use vectors::grid::{delta, length_at_discretization};
 
-// n, or the most that there may be.
-pub fn at_most(most: usize, n: usize) -> usize
-    ensures { result ≤ most }
+// A state and work memory of level 13, the highest that is run.
+pub const STATE: usize = 65544;
+
+pub const WORK: usize = 327720;
+
+// The points of a level, up to level 13.
+pub fn points(level: u32) -> usize
+    ensures { result ≤ 8193 }
 {
-    if most < n {
-        return most;
-    }
-    n
-}
-
-// Where the state stands in a work memory of this length: at 8n, before 16n.
-pub fn first(level: u32, work: usize) -> usize
-    ensures { result + result ≤ work }
-{
-    8 * at_most(work / 40, length_at_discretization(level))
+    length_at_discretization(level).min(8193)
 }
 
 // The clock's base: h × 0.95.
 pub fn base(level: u32) -> f64 {
-    vectors::grid::delta(level) * vectors::constants::COURANT_NUMBER
+    delta(level) * COURANT_NUMBER
 }

@@ -2,7 +2,7 @@
 use Rattle.std.proofs.Common.{◌≡◌, ℕ, suc, ◌+◌, ◌-◌, ◌*◌, ◌^◌, ◌<◌, ◌≤◌, Bool, true, false, cond, ◌&&◌, ◌||◌, eqb, ltb, List, [], ◌∷◌, ◌++◌, length, drop, sym, refl, ap, ◌∙◌, ap₂, append-nil, le_trans, le_of_eq, add-zero, suc-mul, add-one, arith, length-append, ltb-false, ne_eqb}
 use mathlib.Core.Bool.{false≢true}
 use mathlib.Core.List.{flatten}
-use mathlib.Core.Option.{none}
+use Rattle.std.specs.Prelude.{None}
 use lib.Ieee.{Float}
 use Rattle.vectors.specs.Grid.{points_of}
 use Rattle.vectors.specs.Memory.{put}
@@ -123,6 +123,7 @@ module _ (run : Record) (budget : ℕ) (state₀ work₀ frames₀ : List Float)
     pub machine : Machine
     pub same : from (budget - made) made machine ≡ from budget 0 (machine_of run state₀)
     pub holds : Holds machine live state frames
+    pub lent : Lent live.run.settings (length state) (length work)
     pub few : made ≤ budget
     pub steps : has_ended s machine ≡ false → machine.steps + budget ≤ 2147483647 + made
     pub work_long : length work ≡ length work₀
@@ -130,7 +131,7 @@ module _ (run : Record) (budget : ℕ) (state₀ work₀ frames₀ : List Float)
     -- where nothing is attempted, work memory is as it was
     pub quiet : is_idle run state₀ budget ≡ true → (work ≡ work₀) × ((eqb budget 0 || has_ended s machine) ≡ true)
 
-  module _ (given : advance_refusal run state₀ (length work₀) budget ≡ none) where
+  module _ (given : advance_refusal run state₀ (length work₀) budget ≡ None) where
     abbrev lent : Lent s (length state₀) (length work₀)
     lent = (taken run state₀ (length work₀) budget given).lent
 
@@ -156,6 +157,7 @@ module _ (run : Record) (budget : ℕ) (state₀ work₀ frames₀ : List Float)
                 frames_is = no_frames;
                 fits = omega arith;
               };
+          lent = lent;
           few = omega arith;
           steps = λ e. le_trans ((taken run state₀ (length work₀) budget given).few e) (le_of_eq (sym (add-zero 2147483647)));
           work_long = refl;
@@ -193,7 +195,7 @@ module _ (run : Record) (budget : ℕ) (state₀ work₀ frames₀ : List Float)
       frames_next_lem : frames_next live.run.settings (machine_of live.run state).state ≡ frames_next s m.state
       frames_next_lem = by_machine (λ (q : Settings) (p : Machine). frames_next q p.state)
 
-      pub live_lent : Lent live.run.settings (length state) (length work₀)
+      live_lent : Lent live.run.settings (length state) (length work₀)
       live_lent =
           rw settings_are
           (record { sound = lent.sound; state_fits = omega (arith, lent.state_fits, state_long); work_fits = lent.work_fits })
@@ -259,11 +261,11 @@ module _ (run : Record) (budget : ℕ) (state₀ work₀ frames₀ : List Float)
           fresh_formed = attempt_formed s lent.sound (fresh m) (record { sized = h.formed.sized; framed = none })
 
       -- what is left where the attempts end with this machine
-      pub ends_with : (q q' : Reply) → q ≡ q' →
+      pub ends_with : (q q' : Reply) → q ≡ q' → (r : Record) → r ≡ live.run →
           ◌≡◌ {A = AfterAdvance}
-          (record { reply = q; record' = live.run; memory = state; frames = frames })
+          (record { reply = q; record' = r; memory = state; frames = frames })
           (left_by s state₀ frames₀ (record { reply = q'; machine = m }))
-      ends_with q q' e = λ i. record { reply = e i; record' = h.run_is i; memory = h.state_is i; frames = h.frames_is i }
+      ends_with q q' e r k = λ i. record { reply = e i; record' = (k ∙ h.run_is) i; memory = h.state_is i; frames = h.frames_is i }
 
     -- ---- the loop
     module _ {live : Live} {made : ℕ} {state work frames : List Float} (i : GoesOn live made state work frames) where
@@ -281,9 +283,8 @@ module _ (run : Record) (budget : ℕ) (state₀ work₀ frames₀ : List Float)
           ClockOf live.run.settings (state_in live.run.settings live.run.time state) clock →
           tested i.holds clock.framed ≡ false → CanAttempt live clock state work frames
       can_attempt h e clock c t =
-          let l = live_lent i.holds in
           record {
-            lent = record { sound = l.sound; state_fits = l.state_fits; work_fits = le_trans l.work_fits (le_of_eq (sym i.work_long)) };
+            lent = i.lent;
             timed = c;
             going = ended_is i.holds ∙ e;
             counted = steps_fit h e;
@@ -302,7 +303,8 @@ module _ (run : Record) (budget : ℕ) (state₀ work₀ frames₀ : List Float)
                 sym (from_more s (length frames₀) (budget - (made + 1)) made m g)
                 ∙ ap (λ (k : ℕ). from k made m) (sym (one_less h))
                 ∙ i.same;
-            holds = holds_on i.holds d e g;
+            holds = next;
+            lent = let n = live_lent next in record { sound = n.sound; state_fits = n.state_fits; work_fits = le_trans n.work_fits (le_of_eq (sym (l ∙ i.work_long))) };
             few = omega arith;
             steps = λ f. omega (arith, i.steps e, attempt_steps_most s (length frames₀) m);
             work_long = l ∙ i.work_long;
@@ -311,6 +313,9 @@ module _ (run : Record) (budget : ℕ) (state₀ work₀ frames₀ : List Float)
             quiet = λ q. absurd (busy (i.quiet q).1);
           }
         where
+          next : Holds (attempt s m) live' state' frames'
+          next = holds_on i.holds d e g
+
           busy : (eqb budget 0 || has_ended s m) ≡ true → ⊥
           busy k =
               false≢true
@@ -336,27 +341,28 @@ module _ (run : Record) (budget : ℕ) (state₀ work₀ frames₀ : List Float)
       abbrev left : AfterAdvance
       left = left_by s state₀ frames₀ (from budget 0 (machine_of run state₀))
 
-      abbrev leaves : Reply → AfterAdvance
-      leaves q = record { reply = q; record' = live.run; memory = state; frames = frames }
+      abbrev leaves : Reply → Record → AfterAdvance
+      leaves q r = record { reply = q; record' = r; memory = state; frames = frames }
 
       pub ends_ended :
-          true ≡ has_ended live.run.settings (machine_of live.run state) → (q : Reply) →
-          q ≡ ran (outcome_of live.run.settings (machine_of live.run state)) live.count → leaves q ≡ left
-      ends_ended e q o =
-          ends_with i.holds q _ (o ∙ outcome_is i.holds) ∙ ap (left_by s state₀ frames₀) (ended_at (sym (ended_is i.holds) ∙ sym e))
+          true ≡ has_ended live.run.settings (machine_of live.run state) → (q : Reply) (r : Record) →
+          q ≡ ran (outcome_of live.run.settings (machine_of live.run state)) live.count → r ≡ live.run → leaves q r ≡ left
+      ends_ended e q r o h =
+          ends_with i.holds q _ (o ∙ outcome_is i.holds) r h ∙ ap (left_by s state₀ frames₀) (ended_at (sym (ended_is i.holds) ∙ sym e))
 
       pub ends_full :
           made < budget → false ≡ has_ended live.run.settings (machine_of live.run state) → (clock : TimeStep) →
           ClockOf live.run.settings (state_in live.run.settings live.run.time state) clock →
-          true ≡ tested i.holds clock.framed → leaves (full made live.count) ≡ left
+          true ≡ tested i.holds clock.framed → leaves (full made live.count) live.run ≡ left
       ends_full h e clock c t =
-          ends_with i.holds _ _ (ap (full made) i.holds.count_is)
+          ends_with i.holds _ _ (ap (full made) i.holds.count_is) _ refl
           ∙ ap (left_by s state₀ frames₀)
           (full_at h (sym (full_is i.holds clock c (sym (ended_is i.holds) ∙ sym e)) ∙ sym t))
 
       pub ends_spent :
-          budget ≤ made → (q : Reply) → q ≡ ran (outcome_of live.run.settings (machine_of live.run state)) live.count → leaves q ≡ left
-      ends_spent h q o = ends_with i.holds q _ (o ∙ outcome_is i.holds) ∙ ap (left_by s state₀ frames₀) (spent_at h)
+          budget ≤ made → (q : Reply) (r : Record) →
+          q ≡ ran (outcome_of live.run.settings (machine_of live.run state)) live.count → r ≡ live.run → leaves q r ≡ left
+      ends_spent h q r o e = ends_with i.holds q _ (o ∙ outcome_is i.holds) r e ∙ ap (left_by s state₀ frames₀) (spent_at h)
 
       -- work memory, wherever the loop ends
       pub work_left :

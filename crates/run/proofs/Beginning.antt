@@ -1,54 +1,32 @@
--- A begin from what the functions ensure that it calls, and what a call says of its work memory.
-use Rattle.std.proofs.Common.{◌≡◌, ℕ, ◌≤◌, Bool, true, false, cond, List, [], ◌∷◌, length, drop, sym, refl, ap, ◌∙◌, append-nil}
+-- A begin from what the functions ensure that it calls.
+use Rattle.std.proofs.Common.{le_trans, le_of_eq, ◌≡◌, ℕ, ◌≤◌, Bool, true, false, cond, List, [], ◌∷◌, length, sym, refl, ap, ◌∙◌, append-nil}
 use mathlib.Core.List.{flatten}
-use mathlib.Core.Option.{Option, none, some}
+use Rattle.std.specs.Prelude.{Option, None, Some}
 use lib.Ieee.{Float}
 use Rattle.vectors.specs.Memory.{part, put}
 use Rattle.physics.specs.State.{State}
 use Rattle.run.specs.declared.settings.Settings.{Settings}
-use Rattle.run.specs.declared.settings.Record.{Record}
 use Rattle.run.specs.Model.{cell_count, work_count, state_in, first_state, holds_nan, frame_of}
 use Rattle.run.specs.PlainRun.{Machine, option, start}
-use Rattle.run.specs.Calls.{record_of, with_state, with_frames, refused_begin, accepted, AfterBegin, lent_refusal, begin_refusal, begin_of, begin_uses, is_idle, advance_refusal, advance_uses}
+use Rattle.run.specs.Calls.{record_of, with_state, with_frames, refused_begin, accepted, AfterBegin, lent_refusal, begin_refusal, begin_of}
 use Rattle.run.specs.DemandProof.{begin_some, begin_none}
 use Rattle.run.specs.FrameLaws.{put_nothing}
 use Rattle.run.specs.Answers.{next_in}
 use Rattle.run.proofs.Leaves.{time_in}
+use Rattle.run.proofs.Refusals.{lent_all}
 use Rattle.run.proofs.OneAttempt.{stored_is, stored_state}
 
--- ---- work memory
-pub kept_beyond : {n m : ℕ} → n ≡ m → (xs ys : List Float) → drop m xs ≡ drop m ys → drop n xs ≡ drop n ys
-kept_beyond e xs ys h = ap (λ (k : ℕ). drop k xs) e ∙ h ∙ ap (λ (k : ℕ). drop k ys) (sym e)
-
-pub advance_uses_lem :
-    (run : Record) (memory : List Float) (work budget : ℕ) → advance_refusal run memory work budget ≡ none →
-    advance_uses run memory work budget ≡ cond (is_idle run memory budget) 0 (work_count run.settings)
-unfolding advance_uses
-advance_uses_lem run memory work budget e = rw e
-
-pub begin_uses_lem :
-    (s : Settings) (state work frames : ℕ) → lent_refusal s state work frames ≡ none → begin_uses s state work frames ≡ work_count s
-unfolding begin_uses
-begin_uses_lem s state work frames e = rw e
-
--- ---- the initial state
 module _ (s : Settings) (memory work frames : List Float) where
-  pub begin_refused :
-      (n : ℕ) → lent_refusal s (length memory) (length work) (length frames) ≡ some n →
-      ◌≡◌ {A = AfterBegin} (record { answer = refused_begin n; memory = memory; frames = frames }) (begin_of s memory work frames)
-  unfolding begin_refusal
-  begin_refused n e =
-      sym
-      (begin_some s memory work frames n
-      (ap (λ (o : Option ℕ). option o some (cond (holds_nan (first_state s)) (some 13) none)) e))
+  module _ (given : lent_refusal s (length memory) (length work) (length frames) ≡ None)
+      (t : Float) (w : List Float) (made : next_in s t w ≡ first_state s) (long : length w ≡ length work) where
+    wide : work_count s ≤ length w
+    wide = le_trans (lent_all s (length memory) (length work) (length frames) given).lent.work_fits (le_of_eq (sym long))
 
-  module _ (given : lent_refusal s (length memory) (length work) (length frames) ≡ none)
-      (t : Float) (w : List Float) (made : next_in s t w ≡ first_state s) (wide : work_count s ≤ length w) where
-    refusal_is : (b : Bool) → b ≡ holds_nan (next_in s t w) → begin_refusal s (length memory) (length work) (length frames) ≡ cond b (some 13) none
+    refusal_is : (b : Bool) → b ≡ holds_nan (next_in s t w) → begin_refusal s (length memory) (length work) (length frames) ≡ cond b (Some 13) None
     unfolding begin_refusal
     refusal_is b h =
-        ap (λ (o : Option ℕ). option o some (cond (holds_nan (first_state s)) (some 13) none)) given
-        ∙ ap (λ (x : Bool). cond x (some 13) none) (ap holds_nan (sym made) ∙ sym h)
+        ap (λ (o : Option ℕ). option o Some (cond (holds_nan (first_state s)) (Some 13) None)) given
+        ∙ ap (λ (x : Bool). cond x (Some 13) None) (ap holds_nan (sym made) ∙ sym h)
 
     -- and stored in state memory, unless it holds a NaN
     module _ (refused : Bool) (told : refused ≡ holds_nan (next_in s t w)) (memory' : List Float)

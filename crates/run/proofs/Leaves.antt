@@ -1,14 +1,11 @@
 -- What the functions of src/model.rt return, from what the functions of the layers below ensure.
-use Rattle.std.proofs.Common.{◌≡◌, ℕ, ◌-◌, ◌*◌, ◌≤◌, Bool, true, ◌&&◌, List, length, take, drop, sym, refl, ap, ◌∙◌, subst, ap₂, arith, take-take, le-leb}
-use mathlib.Core.Option.{none}
+use Rattle.std.proofs.Common.{◌≡◌, ℕ, ◌-◌, ◌*◌, ◌≤◌, Bool, ◌&&◌, List, length, take, drop, sym, refl, ap, ◌∙◌, ap₂, arith, le-leb}
+use Rattle.std.specs.Prelude.{None}
 use lib.Ieee.{Float, binary64, of_bits, add, lt}
-use Rattle.vectors.specs.declared.answer.Answer.{Answer}
-use Rattle.vectors.specs.Answer.{number_of, left_by, left_at, left_is}
 use Rattle.vectors.specs.Fault.{fault_of}
-use Rattle.vectors.specs.FaultLaws.{fault_none}
 use Rattle.vectors.specs.Grid.{points_of}
-use Rattle.vectors.specs.Memory.{part, put}
-use Rattle.vectors.specs.MemoryLaws.{lent, length_part}
+use Rattle.vectors.specs.Memory.{part}
+use Rattle.vectors.specs.MemoryLaws.{lent}
 use Rattle.physics.specs.State.{State, lay_out, vector_of}
 use Rattle.physics.specs.State as physics
 use Rattle.physics.specs.StateLaws.{Sized, vector_state_in, lay_out-state_in, state_in-lay_out}
@@ -18,8 +15,7 @@ use Rattle.physics.specs.Rk4.{rk4_of}
 use Rattle.physics.specs.Sizes.{sized_initial, sized_step, initial_time}
 use Rattle.physics.specs.Stepped.{room_to_step}
 use Rattle.physics.specs.WorkAfter.{WorkAfter, Made}
-use Rattle.physics.specs.WorkLaws.{stepped_time_lem}
-use Rattle.physics.specs.Store.{both_hold, stored_of}
+use Rattle.physics.specs.WorkLaws.{stepped_time_lem, made_accepted, take_made}
 use Rattle.physics.specs.Nan.{any_nan}
 use Rattle.physics.specs.NanLaws.{any_nan-lay_out}
 use Rattle.physics.specs.BlackHole.{black_hole_mass_of, state_black_hole_mass}
@@ -60,41 +56,12 @@ module _ (s : Settings) (time : Float) (memory : List Float) where
 
 -- the part of work memory where a state is made
 module _ (s : Settings) (work : List Float) where
-  take-part : take (cell_count s) (part (cell_count s) (cell_count s) work) ≡ part (cell_count s) (cell_count s) work
-  unfolding part
-  take-part = take-take (cell_count s) (cell_count s) (drop (cell_count s) work) (omega arith)
-
   pub lay_out_next : (time : Float) → lay_out (next_in s time work) ≡ part (cell_count s) (cell_count s) work
-  lay_out_next time = lay_out-state_in (points_of s.level) time (part (cell_count s) (cell_count s) work) ∙ take-part
+  lay_out_next time = lay_out-state_in (points_of s.level) time (part (cell_count s) (cell_count s) work) ∙ take_made s.level work
 
   pub nan_next : (time : Float) → any_nan time (part (cell_count s) (cell_count s) work) ≡ holds_nan (next_in s time work)
   nan_next time =
       ap₂ any_nan (sym (time_in s time (part (cell_count s) (cell_count s) work))) (sym (lay_out_next time)) ∙ any_nan-lay_out (next_in s time work)
-
-  -- as the code lends it
-  module _ (k : ℕ) (e : k ≡ points_of s.level) where
-    pub next_part : take (16 * k - 8 * k) (drop (8 * k) work) ≡ part (cell_count s) (cell_count s) work
-    next_part = lent (8 * k) (16 * k) (8 * k) work (omega arith) ∙ ap (λ (i : ℕ). part (8 * i) (8 * i) work) e
-
-    pub next_length : work_count s ≤ length work → cell_count s ≤ length (take (16 * k - 8 * k) (drop (8 * k) work))
-    next_length h = rw next_part (omega (arith, length_part (cell_count s) (cell_count s) work (omega arith)))
-
-    -- stored in state memory
-    pub stored_next :
-        (memory : List Float) →
-        stored_of (points_of s.level) (take (16 * k - 8 * k) (drop (8 * k) work)) memory ≡ put 0 (part (cell_count s) (cell_count s) work) memory
-    stored_next memory = ap (λ (l : List Float). put 0 l memory) (ap (take (cell_count s)) next_part ∙ take-part)
-
--- `store` does its work where both memories hold a state
-pub stored :
-    (s : Settings) → fault_at s ≡ none → (answer : Answer) (a b : ℕ) → number_of answer ≡ fault_of s.level (both_hold s.level a b) →
-    cell_count s ≤ a → cell_count s ≤ b → (result before : List Float) → left_by answer result before ≡ result
-stored s sound answer a b e ha hb result before =
-    left_is answer result before
-    ∙ ap (λ (k : ℕ). left_at k result before)
-    (e
-    ∙ sym
-    (fault_none s.level (both_hold s.level a b) (sound_level s sound) (rw (le-leb (cell_count s) a ha, le-leb (cell_count s) b hb))))
 
 -- ---- the clock, by the part of state memory that holds the radial factor
 module _ (s : Settings) (time : Float) (memory : List Float) (k : ℕ) (e : k ≡ points_of s.level) where
@@ -113,12 +80,6 @@ module _ (s : Settings) (time : Float) (memory : List Float) (k : ℕ) (e : k �
 
 -- ---- a state that the physics made in work memory
 module _ (s : Settings) where
-  -- what a call that is not refused leaves
-  accepted_work : (room : Bool) (number : ℕ) (a : State) (work work' : List Float) → fault_at s ≡ none → room ≡ true
-      → number ≡ fault_of s.level room → WorkAfter number s.level a work work' → Made s.level a work work'
-  accepted_work room number a work work' sound fits e m =
-      subst (λ (k : ℕ). WorkAfter k s.level a work work') (e ∙ sym (fault_none s.level room (sound_level s sound) fits)) m
-
   made_next : (a : State) (time : Float) (work work' : List Float) → a.time ≡ time → Sized (points_of s.level) a → Made s.level a work work'
       → (next_in s time work' ≡ a) × (drop (work_count s) work' ≡ drop (work_count s) work)
   made_next a time work work' t z m = (
@@ -126,13 +87,13 @@ module _ (s : Settings) where
     m.beyond,
   )
 
-  pub first_made : (number : ℕ) (work work' : List Float) → fault_at s ≡ none → work_count s ≤ length work
+  pub first_made : (number : ℕ) (work work' : List Float) → fault_at s ≡ None → work_count s ≤ length work
       → number ≡ fault_of s.level (room_to_build s.level (length work)) → WorkAfter number s.level (initial_state_of s.level s.amplitude) work work'
       → (next_in s (of_bits binary64 0x0) work' ≡ first_state s) × (drop (work_count s) work' ≡ drop (work_count s) work)
   unfolding first_state
   first_made number work work' sound wide e m =
       made_next (initial_state_of s.level s.amplitude) _ work work' first_time (sized_initial s.level s.amplitude)
-      (accepted_work _ number _ work work' sound (le-leb (40 * points_of s.level) (length work) wide) e m)
+      (made_accepted s.level number _ _ work work' (sound_level s sound) (le-leb (40 * points_of s.level) (length work) wide) e m)
     where
       first_time : (initial_state_of s.level s.amplitude).time ≡ of_bits binary64 0x0
       first_time = initial_time s.level s.amplitude
@@ -143,5 +104,5 @@ module _ (s : Settings) where
   unfolding step_of
   next_made time delta state number work work' room e m =
       made_next (rk4_of s.level delta (state_in s time state)) (add binary64 time delta) work work' (sym (stepped_time_lem s.level time delta state)) (sized_step s.level delta (state_in s time state))
-      (accepted_work _ number _ work work' room.sound
+      (made_accepted s.level number _ _ work work' (sound_level s room.sound)
       (ap₂ (λ (x y : Bool). x && y) (le-leb (8 * points_of s.level) (length state) room.state_fits) (le-leb (40 * points_of s.level) (length work) room.work_fits)) e m)

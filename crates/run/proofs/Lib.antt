@@ -1,5 +1,4 @@
 pub mod Leaves
-pub mod Ends
 pub mod Refusals
 pub mod OneAttempt
 pub mod Attempts

@@ -1,6 +1,6 @@
 -- One attempt, from what the functions ensure that it calls.
-use Rattle.std.proofs.Common.{◌≡◌, ℕ, ◌+◌, ◌*◌, ◌^◌, ◌<◌, ◌≤◌, Bool, true, false, cond, not, ◌&&◌, List, [], ◌∷◌, ◌++◌, length, drop, sym, refl, ap, ◌∙◌, ap₂, append-nil, add-zero, le-mul_of_pos_right, arith}
-use mathlib.Core.Bool.{and-true, and-false, false≢true}
+use Rattle.std.proofs.Common.{◌≡◌, ℕ, ◌+◌, ◌*◌, ◌^◌, ◌<◌, ◌≤◌, Bool, true, false, cond, not, ◌&&◌, List, [], ◌∷◌, ◌++◌, length, drop, sym, refl, ap, ◌∙◌, ap₂, append-nil, add-zero, le-mul_of_pos_right, true≢false, arith}
+use mathlib.Core.Bool.{and-true}
 use mathlib.Core.List.{flatten}
 use lib.Ieee.{Float}
 use Rattle.vectors.specs.Grid.{points_of}
@@ -42,20 +42,9 @@ module _ (s : Settings) (time : Float) (work memory : List Float) (wide : work_c
       ∙ ap (λ (t : Float). state_in s t (with_state (next_in s time work) memory)) (sym (time_in s time (part (cell_count s) (cell_count s) work)))
       ∙ state_in-put next_sized memory
 
--- a frame that is written was due
-pub frame_due : (framed fine : Bool) → (framed && fine) ≡ true → framed ≡ true
-frame_due true fine e = refl
-frame_due false fine e = absurd (false≢true e)
-
 -- the places of frames fit a usize
-pub at_fits : (count F f l : ℕ) → f ≡ F → count * F ≤ l → l < 2 ^ 64 → count * f < 2 ^ 64
-at_fits count F f l e h g = rw e (omega arith)
-
 pub count_fits : (count F l : ℕ) → 0 < F → count * F + F ≤ l → l < 2 ^ 64 → count + 1 < 2 ^ 64
 count_fits count F l p h g = omega (arith, le-mul_of_pos_right count p)
-
-pub at_room : (count F f l : ℕ) → f ≡ F → count * F + F ≤ l → count * f + F ≤ l
-at_room count F f l e h = rw e h
 
 module _ (live : Live) (clock : TimeStep) (memory work frames : List Float) (can : CanAttempt live clock memory work frames) where
   abbrev run : Record
@@ -174,9 +163,9 @@ module _ (live : Live) (clock : TimeStep) (memory work frames : List Float) (can
 
       pub attempted_framed :
           (broken : Bool) → broken ≡ holds_nan (next_in s t w) → r ≡ record_after run t broken →
-          memory' ≡ cond broken memory (put 0 (part (cell_count s) (cell_count s) w) memory) → (clock.framed && not broken) ≡ true →
+          memory' ≡ cond broken memory (put 0 (part (cell_count s) (cell_count s) w) memory) → clock.framed ≡ true → broken ≡ false →
           (w' : List Float) → drop (work_count s) w' ≡ drop (work_count s) w → (at : ℕ) → at ≡ live.count * frame_count s →
           (frames' : List Float) → frames' ≡ put at (frame_of s (state_in s t memory')) frames →
           Attempted live memory work frames (record { run = r; count = live.count + 1 }) memory' w' frames'
-      attempted_framed true h hr hm f = absurd (false≢true (sym (and-false clock.framed) ∙ f))
-      attempted_framed false h hr hm f = framed_left (record { told = h; record_is = hr; stored = hm }) (sym (and-true clock.framed) ∙ f)
+      attempted_framed true h hr hm f fine = absurd (true≢false fine)
+      attempted_framed false h hr hm f fine = framed_left (record { told = h; record_is = hr; stored = hm }) f

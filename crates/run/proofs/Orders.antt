@@ -1,16 +1,19 @@
 -- What the proofs of `order` share: a command read, and the fold of an order, a command at a time.
-use Rattle.std.proofs.Common.{◌≡◌, ℕ, zero, suc, ◌+◌, ◌<◌, ◌≤◌, true, false, cond, eqb, ltb, List, length, sym, refl, ap, ◌∙◌, arith, le-ltb, lt-ltb, le-leb}
+use Rattle.std.proofs.Common.{Option, None, Some, is_some, ◌≡◌, ℕ, zero, suc, ◌+◌, ◌<◌, ◌≤◌, true, false, cond, eqb, ltb, List, length, sym, refl, ap, ◌∙◌, arith, le-ltb, lt-ltb, le-leb, eq-eqb, ne_eqb}
+use Rattle.std.proofs.lemmas.Bool.{false≢true}
 use lib.ListN.{get_or-eq_default}
 use borrow.Author.Tests.{lt-leb}
 use Rattle.run.specs.Bytes.{byte_at, little}
 use Rattle.run.specs.Order.{is_known, operand_size, command_of, is_cut, command_at, next_at, command_read_at, no_places, noted}
-use Rattle.run.specs.Order.{command_fault, unless_fault, ended, order_from, read_order}
-use Rattle.run.specs.OrderLaws.{next_after}
-use Rattle.run.specs.declared.order.Command.{Command}
-use Rattle.run.specs.declared.order.Command.TheVariants.{Amplitude, Level, MaxTime, Interval, DxLevel, Skip, Begin, Advance, End, Wrong}
+use Rattle.run.specs.Order.{begun, complete, setting_fault, command_fault, unless_fault, ended, order_from, read_order}
+use Rattle.run.specs.OrderLaws.{tells, next_after, command_end, setting_early, begin_once}
+use Rattle.run.specs.Order.{Command, Amplitude, Level, MaxTime, Interval, DxLevel, Skip, Begin, Advance, End, Wrong, Read, Refused}
+use Rattle.std.specs.declared.num.NonZeroUsize.{NonZeroUsize}
+use Rattle.run.specs.OrderAnswers.{number_of, place_of, advances_of, Whole}
 use Rattle.run.specs.declared.order.Places.{Places}
-use Rattle.run.specs.declared.order.Read.{Read}
-use Rattle.run.specs.declared.order.Read.TheVariants.{Refused}
+use Rattle.run.specs.declared.order.Calls.{Calls}
+use Rattle.run.specs.declared.order.Fault.{Fault}
+use Rattle.run.specs.declared.order.Fault.TheVariants.{Cut, Unknown, Misplaced, Missing}
 
 -- past the end bytes count as 0
 pub little_past : (n : ℕ) (s : List ℕ) (at : ℕ) → length s ≤ at → 0 ≡ little n s at
@@ -19,6 +22,27 @@ little_past zero s at h = refl
 little_past (suc n) s at h =
     let more = little_past n s (at + 1) (omega arith) in
     omega (arith, get_or-eq_default s 0 {n = at} h)
+
+-- ---- what came so far
+
+-- a place that came is not 0
+pub came : (o : Option NonZeroUsize) → ltb 0 (place_of o) ≡ is_some o
+came None = refl
+came (Some n) = lt-ltb 0 n.value n.ok
+
+pub began : (o : Option Calls) → ltb 0 (advances_of o) ≡ is_some o
+began None = refl
+began (Some c) = lt-ltb 0 c.advances.value c.advances.ok
+
+setting_not_begun : (p : Places) (place : ℕ) → setting_fault p place ≡ 0 → begun p ≡ true → ⊥
+setting_not_begun p place f b = false≢true (sym (setting_early p place f) ∙ b)
+
+-- a fault has a number
+pub numbered : (f : Fault) → number_of f ≡ 0 → ⊥
+numbered Cut e = absurd (omega arith)
+numbered Unknown e = absurd (omega arith)
+numbered Misplaced e = absurd (omega arith)
+numbered Missing e = absurd (omega arith)
 
 -- ---- a command
 
@@ -71,6 +95,22 @@ module _ (s : List ℕ) (at : ℕ) where
       → c ≡ command_of s (at + 1) (byte_at s at) → k ≡ at + 1 + n → record { command = c; next = k } ≡ command_read_at s at
   unfolding next_at
   read_whole l e h g f = pair (rw (by_cut l, whole e h) g) (rw (whole e h) (rw (← e) f))
+
+-- a byte that is none of the nine
+pub other : (s : List ℕ) (from x : ℕ) → (x ≡ 1 → ⊥) → (x ≡ 2 → ⊥) → (x ≡ 3 → ⊥) → (x ≡ 4 → ⊥) → (x ≡ 5 → ⊥) → (x ≡ 6 → ⊥) → (x ≡ 7 → ⊥) → (x ≡ 8 → ⊥) → (x ≡ 9 → ⊥)
+    → Wrong 2 ≡ command_of s from x
+unfolding command_of
+other s from zero a b c d e f g h i = refl
+other s from (suc zero) a b c d e f g h i = absurd (a refl)
+other s from (suc (suc zero)) a b c d e f g h i = absurd (b refl)
+other s from (suc (suc (suc zero))) a b c d e f g h i = absurd (c refl)
+other s from (suc (suc (suc (suc zero)))) a b c d e f g h i = absurd (d refl)
+other s from (suc (suc (suc (suc (suc zero))))) a b c d e f g h i = absurd (e refl)
+other s from (suc (suc (suc (suc (suc (suc zero)))))) a b c d e f g h i = absurd (f refl)
+other s from (suc (suc (suc (suc (suc (suc (suc zero))))))) a b c d e f g h i = absurd (g refl)
+other s from (suc (suc (suc (suc (suc (suc (suc (suc zero)))))))) a b c d e f g h i = absurd (h refl)
+other s from (suc (suc (suc (suc (suc (suc (suc (suc (suc zero))))))))) a b c d e f g h i = absurd (i refl)
+other s from (suc (suc (suc (suc (suc (suc (suc (suc (suc (suc x)))))))))) a b c d e f g h i = refl
 
 -- ---- an order
 
@@ -133,17 +173,21 @@ unfolding unless_fault
 faultless {s} {p} {at} {f} {c} h z t =
     ap (λ (k : ℕ). unless_fault k at (after t.m s at p c)) (sym z ∙ h.fault_is) ∙ t.is
 
-pub rest_end : {s : List ℕ} {p : Places} {at f : ℕ} {c : Command} {r : Read} → Here s p at c f → f ≡ 0 → eqb (byte_at s at) 9 ≡ true
-    → r ≡ ended s (at + 1) p → r ≡ read_order s
+-- 09 is the byte 9 alone
+pub rest_end : {s : List ℕ} {p q : Places} {at f : ℕ} {c : Command} {r : Read} → Here s p at c f → f ≡ 0 → c ≡ End → q ≡ p
+    → r ≡ ended s (at + 1) q → r ≡ read_order s
 unfolding after
-rest_end h z e q = q ∙ (rw e at (faultless h z (turn_of h)))
+rest_end {s} {at = at} h z e v q =
+    let nine = eq-eqb (byte_at s at) 9 (tells s at (sym h.command ∙ e)) in
+    rw v at q ∙ rw nine at (faultless h z (turn_of h))
 
-pub rest_more : {s : List ℕ} {p q : Places} {at k f : ℕ} {c : Command} → Here s p at c f → f ≡ 0 → eqb (byte_at s at) 9 ≡ false
+pub rest_more : {s : List ℕ} {p q : Places} {at k f : ℕ} {c : Command} → Here s p at c f → f ≡ 0 → (c ≡ End → ⊥)
     → q ≡ noted p c (at + 1) → k ≡ next_at s at → Rest s q k
 unfolding after
 rest_more {s} {p} {q} {at} {k} {f} {c} h z e v w =
     let t = turn_of h in
-    record { n = t.m; enough = omega (arith, t.enough, next_after s at h.inside); is = rw (v, w) (rw e at (faultless h z t)) }
+    let other = ne_eqb (byte_at s at) 9 (λ n. e (h.command ∙ command_end s at h.inside n)) in
+    record { n = t.m; enough = omega (arith, t.enough, next_after s at h.inside); is = rw (v, w) (rw other at (faultless h z t)) }
 
 count_more : (p : Places) (c : Command) (from : ℕ) → (noted p c from).count ≤ p.count + 1
 unfolding noted
@@ -160,3 +204,17 @@ count_more p (Wrong n) from = omega arith
 
 pub count_noted : (p : Places) {q : Places} (c : Command) (from : ℕ) {n : ℕ} → p.count ≤ n → q ≡ noted p c from → q.count ≤ n + 1
 count_noted p c from h e = omega (arith, count_more p c from, ap (λ (p : Places). p.count) e)
+
+-- 07 comes after all settings
+pub whole_noted : (p : Places) (c : Command) (from : ℕ) {f : ℕ} → Whole p → f ≡ command_fault p c → f ≡ 0 → Whole (noted p c from)
+unfolding noted command_fault begun complete
+whole_noted p (Amplitude x) from w f z = λ b. absurd (setting_not_begun p p.amplitude (sym f ∙ z) b)
+whole_noted p (Level x) from w f z = λ b. absurd (setting_not_begun p p.level (sym f ∙ z) b)
+whole_noted p (MaxTime x) from w f z = λ b. absurd (setting_not_begun p p.max_time (sym f ∙ z) b)
+whole_noted p (Interval x) from w f z = λ b. absurd (setting_not_begun p p.interval (sym f ∙ z) b)
+whole_noted p (DxLevel x) from w f z = λ b. absurd (setting_not_begun p p.dx_level (sym f ∙ z) b)
+whole_noted p (Skip x) from w f z = λ b. absurd (setting_not_begun p p.skip (sym f ∙ z) b)
+whole_noted p Begin from w f z = λ b. (begin_once p (sym f ∙ z)).1
+whole_noted p (Advance n) from w f z = w
+whole_noted p End from w f z = w
+whole_noted p (Wrong n) from w f z = w

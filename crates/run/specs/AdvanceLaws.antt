@@ -1,6 +1,6 @@
 -- What every advance leaves: its frames fit into frame memory, the lengths of the memories stay, and the record keeps its settings.
 use Rattle.std.specs.Prelude.{◌≡◌, ℕ, zero, suc, ◌+◌, ◌-◌, ◌*◌, ◌≤◌, Bool, true, false, cond, not, ◌&&◌, ◌||◌, List, [], ◌∷◌, ◌++◌, length, ◌≢◌, nat_lt, Float}
-use Rattle.std.proofs.Math.Option.{Option, none, some}
+use Rattle.std.specs.Prelude.{Option, None, Some}
 use Rattle.std.proofs.Math.Path.{refl}
 use Rattle.std.proofs.Common.{sym, ◌∙◌, subst}
 use Rattle.std.proofs.Math.Nat.{suc-mul}
@@ -117,7 +117,7 @@ module _ (r : Record) (memory work frames : List Float) (budget : ℕ) where
   s = r.settings
 
   -- an advance that is not refused was given settings without fault and a state
-  not_refused : advance_refusal r memory (length work) budget ≡ none → (fault_at s ≡ none) × (cell_count s ≤ length memory)
+  not_refused : advance_refusal r memory (length work) budget ≡ None → (fault_at s ≡ None) × (cell_count s ≤ length memory)
   unfolding advance_refusal
   not_refused e =
       go (fault_at s) refl (nat_lt (length memory) (cell_count s)) refl (nat_lt (length work) (work_count s))
@@ -125,11 +125,11 @@ module _ (r : Record) (memory work frames : List Float) (budget : ℕ) where
     where
       go :
           (o : Option ℕ) → fault_at s ≡ o → (a : Bool) → nat_lt (length memory) (cell_count s) ≡ a → (b c : Bool) →
-          ◌≡◌ {A = Option ℕ} (option o some (cond (a || b) (some 11) (cond c (some 14) none))) none →
-          (fault_at s ≡ none) × (cell_count s ≤ length memory)
-      go (some k) ho a ha b c g = absurd (some_not_none k g)
-      go none ho true ha b c g = absurd (some_not_none 11 g)
-      go none ho false ha b c g = (ho, ltb-false (length memory) (cell_count s) ha)
+          ◌≡◌ {A = Option ℕ} (option o Some (cond (a || b) (Some 11) (cond c (Some 14) None))) None →
+          (fault_at s ≡ None) × (cell_count s ≤ length memory)
+      go (Some k) ho a ha b c g = absurd (some_not_none k g)
+      go None ho true ha b c g = absurd (some_not_none 11 g)
+      go None ho false ha b c g = (ho, ltb-false (length memory) (cell_count s) ha)
 
   refused_leaves : (n : ℕ) → Leaves r frames budget (record { reply = refused n; record' = r; memory = memory; frames = frames })
   unfolding frames_told
@@ -139,8 +139,8 @@ module _ (r : Record) (memory work frames : List Float) (budget : ℕ) where
   advance_leaves = go (advance_refusal r memory (length work) budget) refl
     where
       go : (o : Option ℕ) → advance_refusal r memory (length work) budget ≡ o → Leaves r frames budget (advance_of r memory work frames budget)
-      go (some n) e = subst (Leaves r frames budget) (sym (advance_refused r memory work frames budget n e)) (refused_leaves n)
-      go none e =
+      go (Some n) e = subst (Leaves r frames budget) (sym (advance_refused r memory work frames budget n e)) (refused_leaves n)
+      go None e =
           let g = not_refused e in
           let m = machine_of r memory in
           let stop = attempts_from s (length frames) budget 0 m in

@@ -2,59 +2,53 @@
 -- what the definitions speak of. Definitions only.
 use Rattle.std.specs.Prelude.{◌≡◌, ℕ, ◌+◌, ◌*◌, ◌^◌, ◌<◌, ◌≤◌, Bool, true, false, cond, List, length, drop, Float}
 use mathlib.Core.List.{flatten}
-use Rattle.std.proofs.Math.Option.{Option, none, some}
+use Rattle.std.specs.Prelude.{None, Result, Ok, Err}
 use Rattle.vectors.specs.Memory.{part, put}
 use Rattle.physics.specs.State.{State}
 use Rattle.run.specs.declared.settings.Settings.{Settings}
 use Rattle.run.specs.declared.settings.Record.{Record}
-use Rattle.run.specs.declared.model.Verdict.{Verdict}
-use Rattle.run.specs.declared.model.Verdict.TheVariants as verdict
+use Rattle.run.specs.declared.refusal.Refusal.{Refusal}
 use Rattle.run.specs.declared.adaptive_time_step.TimeStep.{TimeStep}
 use Rattle.run.specs.declared.simulate.Answer.{Answer}
 use Rattle.run.specs.declared.simulate.Answer.TheVariants as answer
 use Rattle.run.specs.declared.simulate.Advanced.{Advanced}
 use Rattle.run.specs.declared.simulate.Begun.{Begun}
-use Rattle.run.specs.declared.simulate.Begun.TheVariants as begun
 use Rattle.run.specs.declared.simulate.Live.{Live}
-use Rattle.run.specs.declared.skip_run.Ran as ran-type
-use Rattle.run.specs.declared.skip_run.Ran.TheVariants as ran_case
+use Rattle.run.specs.declared.skip_run.Ended.{Ended}
+use Rattle.run.specs.declared.skip_run.NotRun.{NotRun}
+use Rattle.run.specs.declared.skip_run.NotRun.TheVariants as not_run-case
 use Rattle.run.specs.Model.{fault_at, cell_count, work_count, frame_count, state_in, delta_next, frames_next}
-use Rattle.run.specs.Outcome.{collapse, broke, timeout, spent}
+use Rattle.run.specs.Outcome.{meant_by}
 use Rattle.run.specs.PlainRun.{Machine, has_ended, attempt}
 use Rattle.run.specs.Tally.{Reply, refused, full, ran}
 use Rattle.run.specs.Calls.{Began, refused_begin, accepted, AfterBegin, AfterAdvance, record_of, machine_of, with_state}
+use Rattle.run.specs.Refusal.{number_of}
 use Rattle.run.specs.SkipRun.{Ran, not_begun, not_run, ran_to}
 
--- 01's number where a call is refused
-abbrev pub refusal_of : Verdict → Option ℕ
-refusal_of verdict.Sound = none
-refusal_of (verdict.Refused n) = some n
-
 -- 01's number and values for each answer of an advance
-abbrev pub reply_of : Answer → Reply
-reply_of (answer.Refused n) = refused n
-reply_of (answer.Full a k) = full a k
-reply_of (answer.Collapse m k) = ran (collapse m) k
-reply_of (answer.Broken k) = ran broke k
-reply_of (answer.Timeout k) = ran timeout k
-reply_of (answer.Spent k) = ran spent k
+abbrev pub reply_of : Result Answer Refusal → Reply
+reply_of (Err r) = refused (number_of r)
+reply_of (Ok (answer.Full a k)) = full a k
+reply_of (Ok (answer.Ran o k)) = ran (meant_by o) k
 
 -- and of a begin
-abbrev pub began_of : Begun → Began
-began_of (begun.Refused n) = refused_begin n
-began_of (begun.Accepted r k) = accepted r k
+abbrev pub began_of : Result Begun Refusal → Began
+began_of (Err r) = refused_begin (number_of r)
+began_of (Ok b) = accepted b.record b.count
+
+-- the refusal, whichever call made it
+abbrev pub refusal_by : NotRun → Refusal
+refusal_by (not_run-case.Begin r) = r
+refusal_by (not_run-case.Advance r) = r
 
 -- and of a skip run by one begin and one advance
-abbrev pub ran_of : ran-type.Ran → Ran
-ran_of (ran_case.NotBegun n) = not_begun n
-ran_of (ran_case.Refused n) = not_run n
-ran_of (ran_case.Collapse m k t) = ran_to (collapse m) k t
-ran_of (ran_case.Broken k t) = ran_to broke k t
-ran_of (ran_case.Timeout k t) = ran_to timeout k t
-ran_of (ran_case.Spent k t) = ran_to spent k t
+abbrev pub ran_of : Result Ended NotRun → Ran
+ran_of (Err (not_run-case.Begin r)) = not_begun (number_of r)
+ran_of (Err (not_run-case.Advance r)) = not_run (number_of r)
+ran_of (Ok e) = ran_to (meant_by e.outcome) e.steps e.time
 
 -- what a call answered, with state and frame memory as it left them
-abbrev pub after_begin : Begun → (memory frames : List Float) → AfterBegin
+abbrev pub after_begin : Result Begun Refusal → (memory frames : List Float) → AfterBegin
 after_begin b memory frames = record { answer = began_of b; memory = memory; frames = frames }
 
 abbrev pub after_advance : Advanced → (memory frames : List Float) → AfterAdvance
@@ -78,7 +72,7 @@ pub record ClockOf (s : Settings) (a : State) (c : TimeStep) : Type 0 where
 
 -- settings without fault, and memories of so many numbers that are long enough
 pub record Lent (s : Settings) (state work : ℕ) : Type 0 where
-  pub sound : fault_at s ≡ none
+  pub sound : fault_at s ≡ None
   pub state_fits : cell_count s ≤ state
   pub work_fits : work_count s ≤ work
 

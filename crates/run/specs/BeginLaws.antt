@@ -1,6 +1,6 @@
 -- What every begin leaves: its frame fits into frame memory, the length of frame memory stays, and the record has the settings.
 use Rattle.std.specs.Prelude.{◌≡◌, ℕ, ◌*◌, ◌≤◌, Bool, true, false, cond, not, ◌&&◌, List, [], ◌∷◌, length, nat_lt, refl, Float}
-use Rattle.std.proofs.Math.Option.{Option, none, some}
+use Rattle.std.specs.Prelude.{Option, None, Some}
 use Rattle.std.proofs.Common.{sym, ap, subst, arith, ltb-false}
 use Rattle.run.specs.declared.settings.Settings.{Settings}
 use Rattle.run.specs.declared.settings.Record.{Record}
@@ -33,7 +33,7 @@ module _ (s : Settings) (memory work frames : List Float) where
   begin_leaves = go (begin_refusal s (length memory) (length work) (length frames)) refl
     where
       go : (o : Option ℕ) → begin_refusal s (length memory) (length work) (length frames) ≡ o → Begins s frames (begin_of s memory work frames)
-      go (some n) e =
+      go (Some n) e =
           subst (Begins s frames) (sym (begin_some s memory work frames n e))
           (record {
             long = refl;
@@ -41,7 +41,7 @@ module _ (s : Settings) (memory work frames : List Float) where
             fits = λ r k q. absurd (clash n r k q);
             large = λ r k q. absurd (clash n r k q);
           })
-      go none e =
+      go None e =
           let l = lendable s (length memory) (length work) (length frames) e in
           let f = start_fits s (length frames) l.roomy in
           subst (Begins s frames) (sym (begin_none s memory work frames e))

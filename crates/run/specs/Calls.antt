@@ -2,7 +2,7 @@
 -- they were lent, and lists of calls. Definitions only.
 use Rattle.std.specs.Prelude.{ℕ, zero, suc, ◌+◌, ◌-◌, ◌*◌, Bool, cond, not, ◌&&◌, ◌||◌, List, [], ◌∷◌, ◌++◌, length, take, drop, ◌==◌, nat_lt, Float}
 use mathlib.Core.List.{flatten}
-use Rattle.std.proofs.Math.Option.{Option, none, some}
+use Rattle.std.specs.Prelude.{Option, None, Some}
 use Rattle.vectors.specs.Memory.{put}
 use Rattle.physics.specs.State.{State, lay_out}
 use Rattle.run.specs.declared.settings.Settings.{Settings}
@@ -33,14 +33,14 @@ with_frames fs memory = put 0 (flatten fs) memory
 -- "Begin: 5, 6, 7, 11, 12, 13": those that need no state, by the lengths of the memories
 unfoldable pub lent_refusal : Settings → (state work frames : ℕ) → Option ℕ
 lent_refusal s state work frames =
-    option (fault_at s) some
-    (cond (too_short s state work) (some 11)
-    (cond (not s.skip && nat_lt frames (frame_count s)) (some 12) none))
+    option (fault_at s) Some
+    (cond (too_short s state work) (Some 11)
+    (cond (not s.skip && nat_lt frames (frame_count s)) (Some 12) None))
 
 -- and "13: initial state holds a NaN."
 unfoldable pub begin_refusal : Settings → (state work frames : ℕ) → Option ℕ
 begin_refusal s state work frames =
-    option (lent_refusal s state work frames) some (cond (holds_nan (first_state s)) (some 13) none)
+    option (lent_refusal s state work frames) Some (cond (holds_nan (first_state s)) (Some 13) None)
 
 -- "answering a number only", or the record and how many frames
 pub data Began : Type 0 where
@@ -72,9 +72,9 @@ begin_uses s state work frames = option (lent_refusal s state work frames) (λ n
 unfoldable pub advance_refusal : Record → (memory : List Float) → (work budget : ℕ) → Option ℕ
 advance_refusal r memory work budget =
     let s = r.settings in
-    option (fault_at s) some
-    (cond (too_short s (length memory) work) (some 11)
-    (cond (too_many (has_ended s (machine_of r memory)) r.steps budget) (some 14) none))
+    option (fault_at s) Some
+    (cond (too_short s (length memory) work) (Some 11)
+    (cond (too_many (has_ended s (machine_of r memory)) r.steps budget) (Some 14) None))
 
 -- what an advance answers, and the machine when it returns
 pub record Stop : Type 0 where

@@ -1,7 +1,7 @@
 -- Laws of an advance's attempts and of the tally's: the same answers, and the plain run's machine.
 use Rattle.std.specs.Prelude.{◌≡◌, ℕ, zero, suc, ◌+◌, ◌-◌, Bool, true, false, cond, ◌&&◌, ◌||◌, List, length, nat_le, Float}
 use Rattle.std.proofs.lemmas.Bool.{false≢true}
-use Rattle.std.proofs.Math.Option.{Option, none, some}
+use Rattle.std.specs.Prelude.{Option, None, Some}
 use Rattle.std.proofs.Math.Path.{refl, sym, ap, ap₂}
 use Rattle.std.proofs.Common.{◌∙◌, add-zero, length-append}
 use native.Mathlib.Omega.{arith}
@@ -42,7 +42,7 @@ module _ (s : Settings) (room : ℕ) where
       rw (is_full_ended m e, attempt_ended s m e) (from_ended left (made + 1) m e)
 
   pub from_formed :
-      (sound : fault_at s ≡ none) (left made : ℕ) (m : Machine) → Formed s m → Formed s (attempts_from s room left made m).machine
+      (sound : fault_at s ≡ None) (left made : ℕ) (m : Machine) → Formed s m → Formed s (attempts_from s room left made m).machine
   unfolding attempts_from
   from_formed sound zero made m d = d
   from_formed sound (suc left) made m d =
@@ -93,11 +93,11 @@ module _ (s : Settings) (S room : ℕ) where
       go :
           (o : Option Float) (b t : Bool) →
           is_end (ran (option o collapse (cond b broke (cond t timeout spent))) k) ≡ (is_some o || t || b)
-      go (some x) b t = refl
-      go none true true = refl
-      go none true false = refl
-      go none false true = refl
-      go none false false = refl
+      go (Some x) b t = refl
+      go None true true = refl
+      go None true false = refl
+      go None false true = refl
+      go None false false = refl
 
   pub attempts_end :
       (left made : ℕ) → is_end (attempts s S room left made).reply ≡ true →

@@ -1,17 +1,14 @@
 -- 01, "Orders (added)": an order carried out a call at a time: what each call answers and leaves in the memories that it was lent, its lines
 -- in lent bytes. Definitions only.
 use Rattle.std.specs.Prelude.{◌≡◌, ℕ, zero, suc, ◌+◌, ◌-◌, ◌*◌, ◌≤◌, Bool, cond, List, [], ◌∷◌, ◌++◌, map, length, take, nat_le, nat_lt, Float}
-use Rattle.std.proofs.Math.Option.{Option, none, some}
+use Rattle.std.specs.Prelude.{Option, None, Some, Result, Ok, Err}
 use Rattle.vectors.specs.Memory.{put}
 use Rattle.run.specs.declared.settings.Record.{Record}
 use Rattle.run.specs.declared.order.Places.{Places}
-use Rattle.run.specs.declared.order.Read.{Read}
-use Rattle.run.specs.declared.order.Read.TheVariants.{Refused, Order}
+use Rattle.run.specs.Order.{Read, Refused, Order}
 use Rattle.run.specs.declared.carry_out.Job.{Job}
-use Rattle.run.specs.declared.carry_out.Todo.{Todo}
-use Rattle.run.specs.declared.carry_out.Todo.TheVariants.{Nothing, Next}
-use Rattle.run.specs.declared.carry_out.Carried.{Carried}
-use Rattle.run.specs.declared.carry_out.Carried.TheVariants.{NoRoom, Last, More}
+use Rattle.run.specs.declared.carry_out.Lines.{Lines}
+use Rattle.run.specs.declared.carry_out.NoRoom.{NoRoom}
 use Rattle.run.specs.Model.{frame_count}
 use Rattle.run.specs.Tally.{Reply, refused, full, ran}
 use Rattle.run.specs.Calls.{Began, refused_begin, accepted, begin_of, begin_uses, AfterAdvance, advance_of, advance_uses, frames_told, frames_in}
@@ -25,20 +22,15 @@ use Rattle.run.specs.Lines.{Line, frame, refusal, refusal_at, texts_of, reply_li
 abbrev pub job_of : Record → (rest advances index count : ℕ) → Job
 job_of r rest advances index count = record { run = r; rest = rest; advances = advances; index = index; count = count }
 
--- what is left, where there is anything
-abbrev pub todo_of : Todo → Option Job
-todo_of Nothing = none
-todo_of (Next j) = some j
-
 -- the advance with this index, if there is one
 unfoldable pub advance_at : (order : List ℕ) → Record → (advances index count : ℕ) → Option Job
 advance_at order r advances index count =
-    cond (nat_lt index count) (some (job_of r (budget_at order advances index) advances index count)) none
+    cond (nat_lt index count) (Some (job_of r (budget_at order advances index) advances index count)) None
 
 -- "after full calls again with the rest of the budget"; else, "after a refused advance" too, "the next command follows"
 unfoldable pub left_after : (order : List ℕ) → Job → Record → Reply → Option Job
 left_after order j r (refused n) = advance_at order r j.advances (j.index + 1) j.count
-left_after order j r (full a k) = some (job_of r (j.rest - a) j.advances j.index j.count)
+left_after order j r (full a k) = Some (job_of r (j.rest - a) j.advances j.index j.count)
 left_after order j r (ran o k) = advance_at order r j.advances (j.index + 1) j.count
 
 -- ---- one call
@@ -59,7 +51,7 @@ advance_turn order j d =
 
 -- "After a refused begin nothing more prints"
 unfoldable pub begin_turn : (order : List ℕ) → Places → Began → (frames : List Float) → Turn
-begin_turn order p (refused_begin n) frames = record { lines = refusal n ∷ []; next = none }
+begin_turn order p (refused_begin n) frames = record { lines = refusal n ∷ []; next = None }
 begin_turn order p (accepted r k) frames =
     record {
       lines = map frame (frames_in k (frame_count r.settings) frames);
@@ -73,10 +65,9 @@ pub data Answered : Type 0 where
   printed : (end : ℕ) → (next : Option Job) → Answered
 
 -- too little room for the lines
-abbrev pub answered_by : Carried → Answered
-answered_by NoRoom = refused_call no_room_for_text
-answered_by (Last end) = printed end none
-answered_by (More end j) = printed end (some j)
+abbrev pub answered_by : Result Lines NoRoom → Answered
+answered_by (Err e) = refused_call no_room_for_text
+answered_by (Ok l) = printed l.end l.next
 
 -- what a call answers and leaves in state memory, frame memory and the lent bytes
 pub record AfterCall : Type 0 where
@@ -86,7 +77,7 @@ pub record AfterCall : Type 0 where
   pub out : List ℕ
 
 -- a call that answered so, with the memories as it left them
-abbrev pub after_carried : Carried → (memory frames : List Float) → (out : List ℕ) → AfterCall
+abbrev pub after_carried : Result Lines NoRoom → (memory frames : List Float) → (out : List ℕ) → AfterCall
 after_carried r memory frames out = record { answer = answered_by r; memory = memory; frames = frames; out = out }
 
 -- room for the lines of any call: a frame's line has 6 bytes and 17 for each of its numbers, at least 20; another line has 64 at the most
@@ -124,7 +115,7 @@ go_on_uses j memory work frames out = cond (has_room frames out) (advance_uses j
 -- the front of an order up to its begin: 8 "before all else"; "checks the whole order"
 module _ (order : List ℕ) (memory work frames : List Float) (out : List ℕ) where
   abbrev pub begin_read : Read → AfterCall
-  begin_read (Refused n at) = after_turn (record { lines = refusal_at n at ∷ []; next = none }) memory frames out
+  begin_read (Refused n at) = after_turn (record { lines = refusal_at n at ∷ []; next = None }) memory frames out
   begin_read (Order s p) =
       let b = begin_of s memory work frames in
       after_turn (begin_turn order p b.answer b.frames) b.memory b.frames out
@@ -132,7 +123,7 @@ module _ (order : List ℕ) (memory work frames : List Float) (out : List ℕ) w
   unfoldable pub begin_order_of : AfterCall
   begin_order_of =
       cond (has_room (length frames) (length out))
-      (cond (nat_lt 4096 (length order)) (after_turn (record { lines = refusal 8 ∷ []; next = none }) memory frames out) (begin_read (read_order order)))
+      (cond (nat_lt 4096 (length order)) (after_turn (record { lines = refusal 8 ∷ []; next = None }) memory frames out) (begin_read (read_order order)))
       (stayed memory frames out)
 
 abbrev pub read_uses : (state work frames : ℕ) → Read → ℕ
@@ -159,8 +150,8 @@ pub record Writes (text before after : List ℕ) (end : ℕ) : Type 0 where
 -- what is printed of a call, as many of the lent bytes as it answers, and then by those after it
 abbrev pub then_printed : (again : Job → List ℕ) → Answered → (out : List ℕ) → List ℕ
 then_printed again (refused_call n) out = []
-then_printed again (printed end none) out = take end out
-then_printed again (printed end (some j)) out = take end out ++ again j
+then_printed again (printed end None) out = take end out
+then_printed again (printed end (Some j)) out = take end out ++ again j
 
 -- by a call that left this, and n calls after it at the most, each with the memories that the one before left
 unfoldable pub printed_by : (n : ℕ) → (order : List ℕ) → (work : List Float) → AfterCall → List ℕ

@@ -1,15 +1,14 @@
 -- The calls of an order end: each leaves fewer to make, as long as frame memory has room for a frame.
 use Rattle.std.specs.Prelude.{◌≡◌, ℕ, zero, suc, ◌+◌, ◌-◌, ◌*◌, ◌<◌, ◌≤◌, Bool, true, false, cond, not, ◌&&◌, List, [], ◌∷◌, length, nat_lt, Float}
 use Rattle.std.proofs.Math.Bool.{and-false}
-use Rattle.std.proofs.Math.Option.{Option, none, some}
+use Rattle.std.specs.Prelude.{Option, None, Some}
 use Rattle.std.proofs.Math.Path.{refl, ap, subst}
 use Rattle.std.proofs.Common.{sym, ◌∙◌, ltb-true}
 use native.Mathlib.Omega.{arith}
 use Rattle.run.specs.declared.settings.Settings.{Settings}
 use Rattle.run.specs.declared.settings.Record.{Record}
 use Rattle.run.specs.declared.order.Places.{Places}
-use Rattle.run.specs.declared.order.Read.{Read}
-use Rattle.run.specs.declared.order.Read.TheVariants.{Refused, Order}
+use Rattle.run.specs.Order.{Read, Refused, Order}
 use Rattle.run.specs.declared.carry_out.Job.{Job}
 use Rattle.run.specs.Model.{frame_count, frames_next}
 use Rattle.run.specs.ModelLaws.{frames_next_skipped}
@@ -30,18 +29,18 @@ unfoldable pub calls_of : (order : List ℕ) → Job → ℕ
 calls_of order j = suc (j.rest + calls_for (budgets_from order j.advances (j.index + 1) (j.count - (j.index + 1))))
 
 unfoldable pub calls_left : (order : List ℕ) → Option Job → ℕ
-calls_left order none = 0
-calls_left order (some j) = calls_of order j
+calls_left order None = 0
+calls_left order (Some j) = calls_of order j
 
 -- what is left after a call
 abbrev pub next_of : Answered → Option Job
-next_of (refused_call n) = none
+next_of (refused_call n) = None
 next_of (printed end next) = next
 
 -- frame memory has room for a frame of the job's run, or the run makes none
 abbrev pub FairNext : (room : ℕ) → Option Job → Type 0
-FairNext room none = Unit {0}
-FairNext room (some j) = Roomy j.run.settings room
+FairNext room None = Unit {0}
+FairNext room (Some j) = Roomy j.run.settings room
 
 -- ---- full has made an attempt
 module _ (s : Settings) (room : ℕ) (roomy : Roomy s room) where
@@ -70,8 +69,8 @@ pub advance_moves :
 advance_moves r memory work frames budget roomy a k e = go (advance_refusal r memory (length work) budget) refl
   where
     go : (o : Option ℕ) → advance_refusal r memory (length work) budget ≡ o → 1 ≤ a
-    go (some n) h = absurd (refused_not_full n a k (ap (λ (d : AfterAdvance). d.reply) (sym (advance_refused r memory work frames budget n h)) ∙ e))
-    go none h =
+    go (Some n) h = absurd (refused_not_full n a k (ap (λ (d : AfterAdvance). d.reply) (sym (advance_refused r memory work frames budget n h)) ∙ e))
+    go None h =
         from_moves r.settings (length frames) roomy budget (machine_of r memory) refl a k
         (ap (λ (d : AfterAdvance). d.reply) (sym (advance_runs r memory work frames budget h)) ∙ e)
 
@@ -83,7 +82,7 @@ next_fewer order r j = go (nat_lt (j.index + 1) j.count) refl
   where
     go :
         (b : Bool) → nat_lt (j.index + 1) j.count ≡ b →
-        calls_left order (cond b (some (job_of r (budget_at order j.advances (j.index + 1)) j.advances (j.index + 1) j.count)) none)
+        calls_left order (cond b (Some (job_of r (budget_at order j.advances (j.index + 1)) j.advances (j.index + 1) j.count)) None)
         < suc (j.rest + calls_for (budgets_from order j.advances (j.index + 1) (j.count - (j.index + 1))))
     go false e = omega arith
     go true e =
@@ -107,7 +106,7 @@ advance_fair :
 unfolding advance_at
 advance_fair order room r advances index count h = go (nat_lt index count)
   where
-    go : (b : Bool) → FairNext room (cond b (some (job_of r (budget_at order advances index) advances index count)) none)
+    go : (b : Bool) → FairNext room (cond b (Some (job_of r (budget_at order advances index) advances index count)) None)
     go true = h
     go false = tt
 
@@ -154,9 +153,9 @@ module _ (order : List ℕ) (memory work frames : List Float) (out : List ℕ) w
       go :
           (o : Option ℕ) → begin_refusal s (length memory) (length work) (length frames) ≡ o →
           let b = begin_of s memory work frames in FairNext (length frames) (begin_turn order p b.answer b.frames).next
-      go (some n) e =
+      go (Some n) e =
           subst (λ (b : AfterBegin). FairNext (length frames) (begin_turn order p b.answer b.frames).next) (sym (begin_some s memory work frames n e)) tt
-      go none e =
+      go None e =
           subst (λ (b : AfterBegin). FairNext (length frames) (begin_turn order p b.answer b.frames).next) (sym (begin_none s memory work frames e))
           (advance_fair order (length frames) (record_of s (start s)) p.advances 0 p.count
           (lendable s (length memory) (length work) (length frames) e).roomy)
@@ -166,7 +165,7 @@ module _ (order : List ℕ) (memory work frames : List Float) (out : List ℕ) w
   begin_fair = go (has_room (length frames) (length out)) (nat_lt 4096 (length order)) (read_order order)
     where
       eight : AfterCall
-      eight = after_turn (record { lines = refusal 8 ∷ []; next = none }) memory frames out
+      eight = after_turn (record { lines = refusal 8 ∷ []; next = None }) memory frames out
 
       read : (r : Read) → FairNext (length frames) (next_of (begin_read order memory work frames out r).answer)
       read (Refused n at) = tt

@@ -1,7 +1,7 @@
 -- An order carried out a call at a time prints what 01 says that it prints, whatever the lent memories held, and ends.
 use Rattle.std.specs.Prelude.{◌≡◌, ℕ, zero, suc, ◌+◌, ◌-◌, ◌*◌, ◌<◌, ◌≤◌, Bool, true, false, cond, ◌||◌, List, [], ◌∷◌, ◌++◌, map, length, take, drop, nat_lt, Float}
 use Rattle.std.proofs.Common.{true≢false, append_assoc, append-nil, ◌∙◌, ap₂, subst, le_of_eq, take_all, drop_at}
-use Rattle.std.proofs.Math.Option.{Option, none, some}
+use Rattle.std.specs.Prelude.{Option, None, Some}
 use Rattle.std.proofs.Math.Path.{refl, sym, ap}
 use native.Mathlib.Omega.{arith}
 use Rattle.std.proofs.Math.Seq.{drop-length, take-append_seam}
@@ -25,8 +25,7 @@ use Rattle.run.specs.AdvanceLaws.{advance_leaves}
 use Rattle.run.specs.BeginLaws.{start_fits}
 use Rattle.run.specs.DemandProof.{begin_some, begin_none}
 use Rattle.run.specs.FrameLaws.{frames_in-put, length_frames}
-use Rattle.run.specs.declared.order.Read.{Read}
-use Rattle.run.specs.declared.order.Read.TheVariants.{Refused, Order}
+use Rattle.run.specs.Order.{Read, Refused, Order}
 use Rattle.run.specs.Order.{budget_at, read_order}
 use Rattle.run.specs.Lines.{Line, frame, refusal, refusal_at, texts_of, reply_lines}
 use Rattle.run.specs.LinesLaws.{Long, texts_of-append, frames_room, each_frames_in, length-frames_in, reply_room}
@@ -171,7 +170,7 @@ module _ (s : Settings) (memory₀ work : List Float) (lent : Lendable s lent_st
       where
         go :
             (b : Bool) → nat_lt index count ≡ b →
-            then_printed again (printed end (cond b (some (job_at S (budget_at order advances index) index)) none)) out
+            then_printed again (printed end (cond b (Some (job_at S (budget_at order advances index) index)) None)) out
             ≡ take end out ++ texts_of (advances_lines s S (from index))
         go true e =
             let l = ltb-true index count e in
@@ -286,7 +285,7 @@ module _ (s : Settings) (memory₀ work : List Float) (lent : Lendable s lent_st
 -- a call after which nothing is left
 last_prints :
     (n : ℕ) (order : List ℕ) (work : List Float) (lines : List Line) (memory frames : List Float) (out : List ℕ) →
-    printed_by n order work (after_turn (record { lines = lines; next = none }) memory frames out) ≡ texts_of lines
+    printed_by n order work (after_turn (record { lines = lines; next = None }) memory frames out) ≡ texts_of lines
 unfolding printed_by
 last_prints zero order work lines memory frames out = take_front (texts_of lines) out
 last_prints (suc n) order work lines memory frames out = take_front (texts_of lines) out
@@ -299,7 +298,7 @@ module _ (order : List ℕ) (memory work frames : List Float) (out : List ℕ)
 
   module _ (s : Settings) (p : Places) where
     begun_is :
-        begin_refusal s lent_state lent_work lent_frames ≡ none →
+        begin_refusal s lent_state lent_work lent_frames ≡ None →
         let b = begin_of s memory work frames in
         after_turn (begin_turn order p b.answer b.frames) b.memory b.frames out
         ≡ after_turn (record { lines = map frame (start s).frames; next = advance_at order (record_of s (plain_run s 0)) p.advances 0 p.count })
@@ -380,11 +379,11 @@ module _ (order : List ℕ) (memory work frames : List Float) (out : List ℕ)
             let b = begin_of s memory work frames in
             printed_by n order work (after_turn (begin_turn order p b.answer b.frames) b.memory b.frames out)
             ≡ texts_of (option o (λ k. refusal k ∷ []) (map frame (start s).frames ++ advances_lines s 0 bs))
-        go (some k) e =
+        go (Some k) e =
             ap (λ (b : AfterBegin). printed_by n order work (after_turn (begin_turn order p b.answer b.frames) b.memory b.frames out))
             (begin_some s memory work frames k (same_refusal s ∙ e))
             ∙ last_prints n order work (refusal k ∷ []) memory frames out
-        go none e = ap (printed_by n order work) (begun_is e) ∙ started (lendable s lent_state lent_work lent_frames e) n m
+        go None e = ap (printed_by n order work) (begun_is e) ∙ started (lendable s lent_state lent_work lent_frames e) n m
 
   -- the order carried out to its end, in as many calls of advance as its budgets want at the most, prints its lines
   pub order_prints : (n : ℕ) → calls_in order (read_order order) ≤ n → printed_by n order work (begin_order_of order memory work frames out) ≡ texts_of (lines_of order)
@@ -394,7 +393,7 @@ module _ (order : List ℕ) (memory work frames : List Float) (out : List ℕ)
       (go (nat_lt 4096 (length order)) (read_order order) m)
     where
       eight : AfterCall
-      eight = after_turn (record { lines = refusal 8 ∷ []; next = none }) memory frames out
+      eight = after_turn (record { lines = refusal 8 ∷ []; next = None }) memory frames out
 
       read : (r : Read) → calls_in order r ≤ n → printed_by n order work (begin_read order memory work frames out r) ≡ texts_of (read_lines order r)
       read (Refused k at) m = last_prints n order work (refusal_at k at ∷ []) memory frames out

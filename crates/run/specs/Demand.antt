@@ -1,6 +1,6 @@
 -- Demand 3 of 01, as one statement over whole lists of calls. Definitions only; DemandProof.antt has the theorem.
 use Rattle.std.specs.Prelude.{◌≡◌, ℕ, ◌*◌, Bool, true, false, ◌||◌, ◌↔◌, List, [], ◌∷◌, ◌++◌, map, length, take, drop, Float}
-use Rattle.std.proofs.Math.Option.{some}
+use Rattle.std.specs.Prelude.{Some}
 use Rattle.run.specs.declared.settings.Settings.{Settings}
 use Rattle.run.specs.declared.settings.Record.{Record}
 use Rattle.run.specs.Model.{cell_count, frame_count, state_in}
@@ -68,7 +68,7 @@ module _ (s : Settings) (memory work frames : List Float) where
   pub record Demand3 : Type 0 where
     -- it is refused with 01's number and with nothing else
     pub refuses :
-        (n : ℕ) → (begun.answer ≡ refused_begin n) ↔ (begin_refusal s (length memory) (length work) (length frames) ≡ some n)
+        (n : ℕ) → (begun.answer ≡ refused_begin n) ↔ (begin_refusal s (length memory) (length work) (length frames) ≡ Some n)
     -- a refused begin changes no number
     pub refused_stays : (n : ℕ) → begun.answer ≡ refused_begin n → (begun.memory ≡ memory) × (begun.frames ≡ frames)
     -- an accepted begin changes none outside the used parts

@@ -1,7 +1,7 @@
 -- Demand 3: the theorem. The session after a list is the one that holds the plain run after S attempts, by induction over the list.
 use Rattle.std.specs.Prelude.{◌≡◌, ℕ, ◌+◌, ◌*◌, ◌≤◌, Bool, true, false, cond, not, ◌&&◌, ◌||◌, List, [], ◌∷◌, ◌++◌, map, length, drop, ◌≢◌, nat_lt, Float}
 use Rattle.std.proofs.lemmas.Bool.{false≢true}
-use Rattle.std.proofs.Math.Option.{Option, none, some}
+use Rattle.std.specs.Prelude.{Option, None, Some}
 use Rattle.std.proofs.Math.Path.{refl, sym, ap, ap₂}
 use Rattle.std.proofs.Common.{◌∙◌, subst, add-zero, zero-add, arith, length-take}
 use borrow.Author.Tests.{ltb-false}
@@ -20,7 +20,7 @@ use Rattle.run.specs.OneCall.{memory_at, session_at, length_memory_at, one_answe
 use Rattle.run.specs.Demand.{is_end, any_end, fed, Agrees, Same, begun, opened, Demand3}
 
 -- ---- the list
-module _ (s : Settings) (memory₀ : List Float) (sound : fault_at s ≡ none) (big : cell_count s ≤ length memory₀) where
+module _ (s : Settings) (memory₀ : List Float) (sound : fault_at s ≡ None) (big : cell_count s ≤ length memory₀) where
   abbrev at : ℕ → Session
   at S = session_at s memory₀ S
 
@@ -142,7 +142,7 @@ module _ (s : Settings) (memory work frames : List Float) where
   abbrev refusal : Option ℕ
   refusal = begin_refusal s (length memory) (length work) (length frames)
 
-  pub begin_some : (n : ℕ) → refusal ≡ some n → begun s memory work frames ≡ record { answer = refused_begin n; memory = memory; frames = frames }
+  pub begin_some : (n : ℕ) → refusal ≡ Some n → begun s memory work frames ≡ record { answer = refused_begin n; memory = memory; frames = frames }
   unfolding begin_of
   begin_some n e = rw e
 
@@ -154,16 +154,16 @@ module _ (s : Settings) (memory work frames : List Float) where
         frames = with_frames (start s).frames frames;
       }
 
-  pub begin_none : refusal ≡ none → begun s memory work frames ≡ begun_accepted
+  pub begin_none : refusal ≡ None → begun s memory work frames ≡ begun_accepted
   unfolding begin_of
   begin_none e = rw e
 
   -- what a begin that is not refused was given
   pub record Given : Type 0 where
-    pub sound : fault_at s ≡ none
+    pub sound : fault_at s ≡ None
     pub big : cell_count s ≤ length memory
 
-  given : refusal ≡ none → Given
+  given : refusal ≡ None → Given
   unfolding begin_refusal lent_refusal
   given e =
       go (fault_at s) refl (nat_lt (length memory) (cell_count s)) refl (nat_lt (length work) (work_count s))
@@ -171,19 +171,19 @@ module _ (s : Settings) (memory work frames : List Float) where
     where
       go :
           (o : Option ℕ) → fault_at s ≡ o → (a : Bool) → nat_lt (length memory) (cell_count s) ≡ a → (b c d : Bool) →
-          ◌≡◌ {A = Option ℕ} (option (option o some (cond (a || b) (some 11) (cond c (some 12) none))) some (cond d (some 13) none)) none →
+          ◌≡◌ {A = Option ℕ} (option (option o Some (cond (a || b) (Some 11) (cond c (Some 12) None))) Some (cond d (Some 13) None)) None →
           Given
-      go (some k) ho a ha b c d g = absurd (some_not_none k g)
-      go none ho true ha b c d g = absurd (some_not_none 11 g)
-      go none ho false ha b c d g = record { sound = ho; big = ltb-false (length memory) (cell_count s) ha }
+      go (Some k) ho a ha b c d g = absurd (some_not_none k g)
+      go None ho true ha b c d g = absurd (some_not_none 11 g)
+      go None ho false ha b c d g = record { sound = ho; big = ltb-false (length memory) (cell_count s) ha }
 
   module _ (r : Record) (k : ℕ) (e : (begun s memory work frames).answer ≡ accepted r k) where
-    accepted_none : refusal ≡ none
+    accepted_none : refusal ≡ None
     accepted_none = go refusal refl
       where
-        go : (o : Option ℕ) → refusal ≡ o → refusal ≡ none
-        go (some n) h = absurd (clash n r k (ap (λ (b : AfterBegin). b.answer) (sym (begin_some n h)) ∙ e))
-        go none h = h
+        go : (o : Option ℕ) → refusal ≡ o → refusal ≡ None
+        go (Some n) h = absurd (clash n r k (ap (λ (b : AfterBegin). b.answer) (sym (begin_some n h)) ∙ e))
+        go None h = h
 
     pub accepted_given : Given
     accepted_given = given accepted_none
@@ -217,21 +217,21 @@ module _ (s : Settings) (memory work frames : List Float) where
   begin_beyond = go refusal refl
     where
       go : (o : Option ℕ) → refusal ≡ o → drop (cell_count s) (begun s memory work frames).memory ≡ drop (cell_count s) memory
-      go (some n) h = ap (λ (b : AfterBegin). drop (cell_count s) b.memory) (begin_some n h)
-      go none h =
+      go (Some n) h = ap (λ (b : AfterBegin). drop (cell_count s) b.memory) (begin_some n h)
+      go None h =
           ap (λ (b : AfterBegin). drop (cell_count s) b.memory) (begin_none h)
           ∙ drop-put (lay_out (start s).state) memory (cell_count s) (length-lay_out (start_formed s (given h).sound).sized)
 
   module _ (n : ℕ) where
-    refused_some : (begun s memory work frames).answer ≡ refused_begin n → refusal ≡ some n
+    refused_some : (begun s memory work frames).answer ≡ refused_begin n → refusal ≡ Some n
     refused_some e = go refusal refl
       where
-        go : (o : Option ℕ) → refusal ≡ o → refusal ≡ some n
-        go (some m) h =
+        go : (o : Option ℕ) → refusal ≡ o → refusal ≡ Some n
+        go (Some m) h =
             let q = ap (λ (b : AfterBegin). b.answer) (sym (begin_some m h)) ∙ e in
             let i : m ≡ n = cc in
-            h ∙ ap some i
-        go none h =
+            h ∙ ap Some i
+        go None h =
             absurd (clash n (record_of s (start s)) (length (start s).frames) (sym e ∙ ap (λ (b : AfterBegin). b.answer) (begin_none h)))
 
     begin_stays : (begun s memory work frames).answer ≡ refused_begin n → ((begun s memory work frames).memory ≡ memory) × ((begun s memory work frames).frames ≡ frames)

@@ -27,11 +27,6 @@ pub sampling_points : {s : Settings} → Accepted s → Sampling (points_of s.le
 sampling_points a = record { inside = sample_inside a }
 
 -- ---- a frame in three groups, of a state whose vectors of n numbers each stand in a memory
--- the memory has the vectors, and the samples stay inside each
-pub record Vectors (n step count state_length : ℕ) : Type 0 where
-  pub sampling : Sampling n step count
-  pub state : 8 * n ≤ state_length
-
 module _ (n step count : ℕ) (state : List Float) where
   -- samples of vector k
   abbrev pub vector_samples : ℕ → List Float

@@ -1,14 +1,12 @@
 -- When settings are refused (01, "From the input", 5 to 7). Definitions only.
 use Rattle.std.specs.Prelude.{ℕ, Bool, cond, nat_lt}
-use Rattle.std.proofs.Math.Option.{Option, none, some}
+use Rattle.std.specs.Prelude.{Option, None, Some}
 use Rattle.std.specs.Float.{binary64}
 use Rattle.std.specs.Float.Ieee.{mul, lt}
 use Rattle.vectors.specs.Constants.{whole}
 use Rattle.vectors.specs.Grid.{level_in_range, points_of}
 use Rattle.vectors.specs.Powers.{one}
 use Rattle.run.specs.declared.settings.Settings.{Settings}
-use Rattle.run.specs.declared.simulation_inputs.Fault.{Fault}
-use Rattle.run.specs.declared.simulation_inputs.Fault.TheVariants.{Sound, Refused}
 
 -- "interval × n < 1": one rounded product, and no NaN is below 1
 abbrev pub interval_too_short : Settings → Bool
@@ -20,9 +18,4 @@ dx_too_fine s = nat_lt s.level s.dx_level
 
 -- 01's number of the first fault: 5, "level below 5 or above 16"; 6; 7
 unfoldable pub fault_at : Settings → Option ℕ
-fault_at s = cond (level_in_range s.level) (cond (interval_too_short s) (some 6) (cond (dx_too_fine s) (some 7) none)) (some 5)
-
--- the number that an answer of `validate` holds
-abbrev pub fault_of : Fault → Option ℕ
-fault_of Sound = none
-fault_of (Refused number) = some number
+fault_at s = cond (level_in_range s.level) (cond (interval_too_short s) (Some 6) (cond (dx_too_fine s) (Some 7) None)) (Some 5)

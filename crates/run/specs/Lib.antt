@@ -13,6 +13,7 @@ pub mod ClockLaws
 pub mod Demand
 pub mod DemandProof
 pub mod FrameLaws
+pub mod FramePlaces
 pub mod FrameWriting
 pub mod Frames
 pub mod FramesLaws
@@ -24,12 +25,14 @@ pub mod Model
 pub mod ModelLaws
 pub mod OneCall
 pub mod Order
+pub mod OrderAnswers
 pub mod OrderLaws
 pub mod OrderLines
 pub mod OrderLinesLaws
 pub mod Outcome
 pub mod PlainRun
 pub mod PlainRunLaws
+pub mod Refusal
 pub mod Report
 pub mod ReportLaws
 pub mod SkipRun

@@ -1,7 +1,7 @@
 -- What a run asks of the physics, of the clock and of the frames: every name that the plain run, the tally and the calls are defined by.
 -- Definitions only; ModelLaws.antt has the laws that proofs may use of them.
 use Rattle.std.specs.Prelude.{ℕ, ◌*◌, Bool, List, Float}
-use Rattle.std.proofs.Math.Option.{Option}
+use Rattle.std.specs.Prelude.{Option}
 use Rattle.std.specs.Float.Ieee.{lt}
 use Rattle.vectors.specs.Grid.{points_of}
 use Rattle.physics.specs.State as physics

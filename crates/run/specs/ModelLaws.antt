@@ -1,6 +1,6 @@
 -- All that proofs may use of the definitions of Model.antt.
 use Rattle.std.specs.Prelude.{◌≡◌, ℕ, ◌<◌, ◌≤◌, true, false, length, ◌≢◌}
-use Rattle.std.proofs.Math.Option.{none, some}
+use Rattle.std.specs.Prelude.{None, Some}
 use Rattle.std.proofs.Common.{sym, arith}
 use Rattle.vectors.specs.Grid.{points_of}
 use Rattle.vectors.specs.GridLaws.{Level}
@@ -13,7 +13,7 @@ use Rattle.run.specs.FramesLaws.{frame_size_accepted, length_frame}
 use Rattle.run.specs.InputsLaws.{Accepted, accepted}
 use Rattle.run.specs.Model.{fault_at, frame_count, first_state, delta_next, frames_next, step_of, next_state, frame_of}
 
-pub some_not_none : {A : Type 0} (a : A) → some a ≢ none
+pub some_not_none : {A : Type 0} (a : A) → Some a ≢ None
 some_not_none a e = let z : ◌≡◌ {A = ℕ} 0 1 = cc in omega arith
 
 -- settings with skip have no frame step
@@ -21,7 +21,7 @@ pub frames_next_skipped : (s : Settings) (a : State) → s.skip ≡ true → fra
 unfolding frames_next
 frames_next_skipped s a h = sym (step_skipped s a.time a.radial_factor h).1
 
-module _ (s : Settings) (sound : fault_at s ≡ none) where
+module _ (s : Settings) (sound : fault_at s ≡ None) where
   pub sound_settings : Accepted s
   unfolding fault_at
   sound_settings = accepted s sound

@@ -3,7 +3,7 @@ use Rattle.std.specs.Prelude.{◌≡◌, ℕ, ◌+◌, ◌*◌, ◌≤◌, Bool,
 use Rattle.std.proofs.Common.{true≢false, sym, ◌∙◌, subst₂, add-zero, zero-add, arith, length-take, take-take, ltb-false}
 use Rattle.std.proofs.lemmas.Bool.{false≢true}
 use mathlib.Core.List.{append-nil}
-use Rattle.std.proofs.Math.Option.{none, some}
+use Rattle.std.specs.Prelude.{None, Some}
 use Rattle.std.proofs.Math.Path.{refl, ap}
 use Rattle.std.proofs.Math.ListN.{take-append-drop}
 use Rattle.vectors.specs.Grid.{points_of}
@@ -23,26 +23,26 @@ use Rattle.run.specs.Demand.{fed, is_end}
 -- ---- the ways of an advance, and of the tally
 module _ (r : Record) (memory work frames : List Float) (budget : ℕ) where
   pub advance_refused :
-      (n : ℕ) → advance_refusal r memory (length work) budget ≡ some n →
+      (n : ℕ) → advance_refusal r memory (length work) budget ≡ Some n →
       advance_of r memory work frames budget ≡ record { reply = refused n; record' = r; memory = memory; frames = frames }
   unfolding advance_of
   advance_refused n e = rw e
 
   pub advance_runs :
-      advance_refusal r memory (length work) budget ≡ none →
+      advance_refusal r memory (length work) budget ≡ None →
       advance_of r memory work frames budget
       ≡ left_by r.settings memory frames (attempts_from r.settings (length frames) budget 0 (machine_of r memory))
   unfolding advance_of
   advance_runs e = rw e
 
-module _ (r : Record) (memory : List Float) (work budget : ℕ) (sound : fault_at r.settings ≡ none) where
-  refusal_short : too_short r.settings (length memory) work ≡ true → advance_refusal r memory work budget ≡ some 11
+module _ (r : Record) (memory : List Float) (work budget : ℕ) (sound : fault_at r.settings ≡ None) where
+  refusal_short : too_short r.settings (length memory) work ≡ true → advance_refusal r memory work budget ≡ Some 11
   unfolding advance_refusal
   refusal_short h = rw (sound, h)
 
   refusal_later :
       too_short r.settings (length memory) work ≡ false →
-      advance_refusal r memory work budget ≡ cond (too_many (has_ended r.settings (machine_of r memory)) r.steps budget) (some 14) none
+      advance_refusal r memory work budget ≡ cond (too_many (has_ended r.settings (machine_of r memory)) r.steps budget) (Some 14) None
   unfolding advance_refusal
   refusal_later h = rw (sound, h)
 
@@ -110,7 +110,7 @@ module _ (s : Settings) (memory₀ : List Float) where
     joined : (plain_run s S).frames ++ frames_in (frames_told d.reply) (frame_count s) d.frames ≡ (plain_run s (S + t.made)).frames
     unused : drop (frames_told d.reply * frame_count s) d.frames ≡ drop (frames_told d.reply * frame_count s) c.frames
 
-  module _ (sound : fault_at s ≡ none) (big : cell_count s ≤ length memory₀) where
+  module _ (sound : fault_at s ≡ None) (big : cell_count s ≤ length memory₀) where
     length_state : (S : ℕ) → length (lay_out (plain_run s S).state) ≡ cell_count s
     length_state S = length-lay_out (plain_run_formed s sound S).sized
 
@@ -191,11 +191,11 @@ module _ (s : Settings) (memory₀ : List Float) where
           later :
               (b : Bool) → too_short s (length lent) (length c.work) ≡ false →
               too_many (has_ended s (plain_run s S)) (plain_run s S).steps c.budget ≡ b →
-              advance_refusal r lent (length c.work) c.budget ≡ cond b (some 14) none
+              advance_refusal r lent (length c.work) c.budget ≡ cond b (Some 14) None
           later b hx hy =
               refusal_later r lent (length c.work) c.budget sound hx
-              ∙ ap (λ (m : Machine). cond (too_many (has_ended s m) (plain_run s S).steps c.budget) (some 14) none) (lent_machine (enough hx))
-              ∙ ap (λ (x : Bool). cond x (some 14) none) hy
+              ∙ ap (λ (m : Machine). cond (too_many (has_ended s m) (plain_run s S).steps c.budget) (Some 14) None) (lent_machine (enough hx))
+              ∙ ap (λ (x : Bool). cond x (Some 14) None) hy
 
           run : Stop
           run = attempts_from s (length c.frames) c.budget 0 fresh

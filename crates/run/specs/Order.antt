@@ -1,13 +1,33 @@
 -- 01, "Orders (added)" and "From the input", 1 to 4: what an order says, or how it is refused. Definitions only.
-use Rattle.std.specs.Prelude.{ℕ, zero, suc, ◌+◌, ◌*◌, Bool, cond, ◌&&◌, List, [], ◌∷◌, length, ◌==◌, nat_le, nat_lt, slice_index, slice_index_or}
+use Rattle.std.specs.Prelude.{ℕ, zero, suc, ◌+◌, ◌*◌, Bool, cond, ◌&&◌, List, [], ◌∷◌, length, ◌==◌, nat_le, nat_lt, slice_index, slice_index_or, Float}
 use Rattle.run.specs.Bytes.{byte_at, little, float_at}
 use Rattle.run.specs.declared.settings.Settings.{Settings}
-use Rattle.run.specs.declared.order.Command.{Command}
-use Rattle.run.specs.declared.order.Command.TheVariants.{Amplitude, Level, MaxTime, Interval, DxLevel, Skip, Begin, Advance, End, Wrong}
-use Rattle.run.specs.declared.order.CommandRead.{CommandRead}
 use Rattle.run.specs.declared.order.Places.{Places}
-use Rattle.run.specs.declared.order.Read.{Read}
-use Rattle.run.specs.declared.order.Read.TheVariants.{Refused, Order}
+
+-- ---- what is read
+
+-- one case for each command byte, and one for what is no command: 01's number
+pub data Command : Type 0 where
+  Amplitude : Float → Command
+  Level : ℕ → Command
+  MaxTime : Float → Command
+  Interval : Float → Command
+  DxLevel : ℕ → Command
+  Skip : Bool → Command
+  Begin : Command
+  Advance : ℕ → Command
+  End : Command
+  Wrong : ℕ → Command
+
+-- a command and the position after its operand
+pub record CommandRead : Type 0 where
+  pub command : Command
+  pub next : ℕ
+
+-- 01's number and the position, or what the order says
+pub data Read : Type 0 where
+  Refused : ℕ → ℕ → Read
+  Order : Settings → Places → Read
 
 -- ---- one command
 

@@ -7,11 +7,8 @@ use Rattle.run.specs.Bytes.{byte_at, little, float_at}
 use Rattle.run.specs.Order.{is_known, operand_size, switch_of, command_of, is_cut, command_at, next_at, no_places, noted, begun, complete}
 use Rattle.run.specs.Order.{setting_fault, begin_fault, unless_begun, command_fault, settings_at, unless_fault, ended, order_from, read_order, budget_at}
 use Rattle.run.specs.declared.settings.Settings.{Settings}
-use Rattle.run.specs.declared.order.Command.{Command}
-use Rattle.run.specs.declared.order.Command.TheVariants.{Amplitude, Level, MaxTime, Interval, DxLevel, Skip, Begin, Advance, End, Wrong}
+use Rattle.run.specs.Order.{Command, Amplitude, Level, MaxTime, Interval, DxLevel, Skip, Begin, Advance, End, Wrong, Read, Refused, Order}
 use Rattle.run.specs.declared.order.Places.{Places}
-use Rattle.run.specs.declared.order.Read.{Read}
-use Rattle.run.specs.declared.order.Read.TheVariants.{Refused, Order}
 
 -- ---- one command
 

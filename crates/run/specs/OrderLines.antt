@@ -2,8 +2,7 @@
 use Rattle.std.specs.Prelude.{ℕ, zero, suc, ◌+◌, ◌-◌, ◌*◌, cond, List, [], ◌∷◌, ◌++◌, map, length, drop, nat_lt, Float}
 use Rattle.vectors.specs.Grid.{points_of}
 use Rattle.run.specs.declared.settings.Settings.{Settings}
-use Rattle.run.specs.declared.order.Read.{Read}
-use Rattle.run.specs.declared.order.Read.TheVariants.{Refused, Order}
+use Rattle.run.specs.Order.{Read, Refused, Order}
 use Rattle.run.specs.PlainRun.{option, start, plain_run}
 use Rattle.run.specs.Tally.{Reply, refused, full, ran, Fed, Told, told}
 use Rattle.run.specs.Calls.{begin_refusal}

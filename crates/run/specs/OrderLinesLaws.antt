@@ -2,7 +2,7 @@
 use Rattle.std.specs.Prelude.{◌≡◌, ℕ, zero, suc, ◌+◌, ◌-◌, ◌*◌, ◌<◌, ◌≤◌, Bool, true, false, cond, not, ◌&&◌, List, [], ◌∷◌, ◌++◌, map, length, drop, ◌≢◌, nat_lt, Float}
 use Rattle.std.proofs.Math.Bool.{and-false}
 use Rattle.std.proofs.Common.{append_assoc, append-nil, ◌∙◌, subst, add-zero, zero-add, le-ltb, ltb-false}
-use Rattle.std.proofs.Math.Option.{Option, none, some}
+use Rattle.std.specs.Prelude.{Option, None, Some}
 use Rattle.std.proofs.Math.Path.{refl, sym, ap}
 use native.Mathlib.Omega.{arith}
 use Rattle.std.proofs.Math.Seq.{drop_at}
@@ -168,11 +168,11 @@ module _ (s : Settings) (room : ℕ) (roomy : Roomy s room) where
 
 -- ---- the settings of a begin that is not refused, with memories of these lengths
 pub record Lendable (s : Settings) (state work frames : ℕ) : Type 0 where
-  pub sound : fault_at s ≡ none
+  pub sound : fault_at s ≡ None
   pub fits : too_short s state work ≡ false
   pub roomy : Roomy s frames
 
-pub lendable : (s : Settings) (state work frames : ℕ) → begin_refusal s state work frames ≡ none → Lendable s state work frames
+pub lendable : (s : Settings) (state work frames : ℕ) → begin_refusal s state work frames ≡ None → Lendable s state work frames
 unfolding begin_refusal lent_refusal
 lendable s state work frames e =
     go (fault_at s) refl (too_short s state work) refl (not s.skip && nat_lt frames (frame_count s)) refl (holds_nan (first_state s)) e
@@ -180,12 +180,12 @@ lendable s state work frames e =
     go :
         (o : Option ℕ) → fault_at s ≡ o → (a : Bool) → too_short s state work ≡ a →
         (b : Bool) → (not s.skip && nat_lt frames (frame_count s)) ≡ b → (d : Bool) →
-        ◌≡◌ {A = Option ℕ} (option (option o some (cond a (some 11) (cond b (some 12) none))) some (cond d (some 13) none)) none →
+        ◌≡◌ {A = Option ℕ} (option (option o Some (cond a (Some 11) (cond b (Some 12) None))) Some (cond d (Some 13) None)) None →
         Lendable s state work frames
-    go (some k) ho a ha b hb d g = absurd (some_not_none k g)
-    go none ho true ha b hb d g = absurd (some_not_none 11 g)
-    go none ho false ha true hb d g = absurd (some_not_none 12 g)
-    go none ho false ha false hb d g = record { sound = ho; fits = ha; roomy = hb }
+    go (Some k) ho a ha b hb d g = absurd (some_not_none k g)
+    go None ho true ha b hb d g = absurd (some_not_none 11 g)
+    go None ho false ha true hb d g = absurd (some_not_none 12 g)
+    go None ho false ha false hb d g = record { sound = ho; fits = ha; roomy = hb }
 
 -- ---- an 08
 module _ (s : Settings) where

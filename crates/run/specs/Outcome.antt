@@ -1,5 +1,7 @@
 -- 01, "Plain run": how a run stands after its attempts.
 use Rattle.std.specs.Prelude.{Float}
+use Rattle.run.specs.declared.outcome.Outcome as declared
+use Rattle.run.specs.declared.outcome.Outcome.TheVariants as variant
 
 -- "collapse with mass, else broken, else timeout, else spent"
 pub data Outcome : Type 0 where
@@ -7,3 +9,10 @@ pub data Outcome : Type 0 where
   broke : Outcome
   timeout : Outcome
   spent : Outcome
+
+-- the outcome that each case of the enum in src/outcome.rt stands for
+abbrev pub meant_by : declared.Outcome → Outcome
+meant_by (variant.Collapse mass) = collapse mass
+meant_by variant.Broken = broke
+meant_by variant.Timeout = timeout
+meant_by variant.Spent = spent

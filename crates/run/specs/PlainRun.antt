@@ -1,6 +1,6 @@
 -- 01, "Plain run": the machine, its start, an attempt, and the run after so many attempts. Definitions only.
 use Rattle.std.specs.Prelude.{ℕ, zero, suc, ◌+◌, Bool, true, false, cond, ◌&&◌, ◌||◌, List, [], ◌∷◌, ◌++◌, nat_le, Float}
-use Rattle.std.proofs.Math.Option.{Option, none, some}
+use Rattle.std.specs.Prelude.{Option, None, Some}
 use Rattle.physics.specs.State.{State}
 use Rattle.run.specs.declared.settings.Settings.{Settings}
 use Rattle.run.specs.Outcome.{Outcome, collapse, broke, timeout, spent}
@@ -15,13 +15,13 @@ pub record Machine : Type 0 where
 
 -- whether there is one
 abbrev pub is_some : {A : Type 0} → Option A → Bool
-is_some none = false
-is_some (some a) = true
+is_some None = false
+is_some (Some a) = true
 
 -- f of what there is, else b
 abbrev pub option : {A B : Type 0} → Option A → (A → B) → B → B
-option none f b = b
-option (some a) f b = f a
+option None f b = b
+option (Some a) f b = f a
 
 module _ (s : Settings) where
   -- "a radial factor <= 0.01, or steps >= 1 with time > max time, or broken"

@@ -1,7 +1,7 @@
 -- Laws of the plain run: its attempts, that an ended run stays, and that its states and frames have their lengths.
 use Rattle.std.specs.Prelude.{◌≡◌, ℕ, zero, suc, ◌+◌, Bool, true, false, cond, List, [], ◌∷◌, ◌++◌, refl, Float}
 use Rattle.std.proofs.Common.{append_assoc, ◌∙◌, add-zero}
-use Rattle.std.proofs.Math.Option.{none}
+use Rattle.std.specs.Prelude.{None}
 use Rattle.std.proofs.Math.Path.{ap}
 use native.Mathlib.Omega.{arith}
 use Rattle.vectors.specs.Grid.{points_of}
@@ -121,7 +121,7 @@ pub record Formed (s : Settings) (m : Machine) : Type 0 where
   pub sized : Sized (points_of s.level) m.state
   pub framed : Each (frame_count s) m.frames
 
-module _ (s : Settings) (sound : fault_at s ≡ none) where
+module _ (s : Settings) (sound : fault_at s ≡ None) where
   pub start_formed : Formed s (start s)
   unfolding start
   start_formed = record { sized = first_state_sized s sound; framed = go s.skip }

@@ -1,11 +1,7 @@
 -- 01, "Orders": the lines that the program prints, as lists of bytes. Definitions only.
-use Rattle.std.specs.Prelude.{◌≡◌, ℕ, zero, suc, ◌+◌, ◌/◌, ◌%◌, ◌≤◌, cond, List, [], ◌∷◌, ◌++◌, length, nat_le, nat_lt, to_bits, Float}
+use Rattle.std.specs.Prelude.{◌≡◌, ℕ, zero, suc, ◌+◌, ◌/◌, ◌%◌, ◌≤◌, cond, List, [], ◌∷◌, ◌++◌, length, nat_le, nat_lt, to_bits, Float, Option, None, Some}
 use Rattle.std.specs.Float.{binary64}
 use Rattle.vectors.specs.Memory.{put}
-use Rattle.run.specs.declared.report.Outcome as declared
-use Rattle.run.specs.declared.report.Outcome.TheVariants as variant
-use Rattle.run.specs.declared.report.Wrote.{Wrote}
-use Rattle.run.specs.declared.report.Wrote.TheVariants as wrote
 use Rattle.run.specs.Ascii.{bytes_of}
 use Rattle.run.specs.Outcome.{Outcome, collapse, broke, timeout, spent}
 
@@ -115,20 +111,13 @@ writing at text bytes =
     (record { answer = ends_at (at + length text); bytes = put at text bytes })
     (record { answer = refused_text no_room_for_text; bytes = bytes })
 
--- the number or value of each case of `Wrote`
-abbrev pub reported_of : Wrote → Reported
-reported_of wrote.NoRoom = refused_text no_room_for_text
-reported_of (wrote.To end) = ends_at end
+-- what a writer's answer stands for: nothing was written, or where the text ends
+abbrev pub reported_of : Option ℕ → Reported
+reported_of None = refused_text no_room_for_text
+reported_of (Some end) = ends_at end
 
-abbrev pub after_writing : Wrote → List ℕ → AfterWriting
+abbrev pub after_writing : Option ℕ → List ℕ → AfterWriting
 after_writing answer bytes = record { answer = reported_of answer; bytes = bytes }
-
--- the outcome that each case of the enum in src/report.rt stands for
-unfoldable pub meant_by : declared.Outcome → Outcome
-meant_by (variant.Collapse mass) = collapse mass
-meant_by variant.Broken = broke
-meant_by variant.Timeout = timeout
-meant_by variant.Spent = spent
 
 -- ---- what the parts of a line promise
 

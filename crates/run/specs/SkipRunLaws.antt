@@ -1,14 +1,14 @@
 -- A begin and one advance with skip answer `ran_at`, and leave the numbers behind `touched` as they were.
 use Rattle.std.specs.Prelude.{◌≡◌, ℕ, ◌+◌, ◌-◌, ◌≤◌, Bool, true, false, cond, ◌||◌, List, [], ◌∷◌, ◌++◌, length, take, drop, nat_lt, Float}
 use Rattle.std.proofs.Common.{true≢false, append-nil, sym, ◌∙◌, le_of_eq, arith, ltb-false, drop-drop}
-use Rattle.std.proofs.Math.Option.{Option, none, some}
+use Rattle.std.specs.Prelude.{Option, None, Some, Result}
 use Rattle.std.proofs.Math.Path.{refl, ap}
 use Rattle.std.proofs.Math.Seq.{take_all, drop-length}
 use Rattle.run.specs.declared.settings.Settings.{Settings}
 use Rattle.run.specs.declared.settings.Record.{Record}
+use Rattle.run.specs.declared.refusal.Refusal.{Refusal}
 use Rattle.run.specs.declared.simulate.Advanced.{Advanced}
 use Rattle.run.specs.declared.simulate.Begun.{Begun}
-use Rattle.run.specs.declared.simulate.Begun.TheVariants as begins
 use Rattle.run.specs.Inputs as inputs
 use Rattle.run.specs.Model.{fault_at, cell_count, work_count}
 use Rattle.run.specs.ModelLaws.{some_not_none}
@@ -55,44 +55,44 @@ module _ (s : Settings) (a : Float) (state work frames : List Float) (bare : len
   unfolding begin_uses
   uses_is = touched_is (work_count s)
 
-  touched_none : begin_refusal t (length state) (length work) (length frames) ≡ none → (count : ℕ) → touched s (length state) (length work) count ≡ count
+  touched_none : begin_refusal t (length state) (length work) (length frames) ≡ None → (count : ℕ) → touched s (length state) (length work) count ≡ count
   unfolding begin_refusal
   touched_none e count = touched_is count ∙ go (lent_to (length frames)) _ e
     where
-      go : (o p : Option ℕ) → ◌≡◌ {A = Option ℕ} (option o some p) none → option o (λ n. 0) count ≡ count
-      go (some n) p h = absurd (some_not_none n h)
-      go none p h = refl
+      go : (o p : Option ℕ) → ◌≡◌ {A = Option ℕ} (option o Some p) None → option o (λ n. 0) count ≡ count
+      go (Some n) p h = absurd (some_not_none n h)
+      go None p h = refl
 
   refusal_at_lem : (o : Option ℕ) → begin_refusal t (length state) (length work) (length frames) ≡ o → begin_refusal t (length state) (length work) 0 ≡ o
   refusal_at_lem o e = ap (begin_refusal t (length state) (length work)) (sym bare) ∙ e
 
   module _ (budget : ℕ) where
-    ran_refused : (n : ℕ) → begin_refusal t (length state) (length work) 0 ≡ some n → not_begun n ≡ ran_at s a (length state) (length work) budget
+    ran_refused : (n : ℕ) → begin_refusal t (length state) (length work) 0 ≡ Some n → not_begun n ≡ ran_at s a (length state) (length work) budget
     unfolding ran_at
     ran_refused n e = rw e
 
     ran_many :
-        begin_refusal t (length state) (length work) 0 ≡ none → too_many (has_ended t (start t)) 0 budget ≡ true →
+        begin_refusal t (length state) (length work) 0 ≡ None → too_many (has_ended t (start t)) 0 budget ≡ true →
         not_run 14 ≡ ran_at s a (length state) (length work) budget
     unfolding ran_at
     ran_many e h = rw (e, h)
 
     ran_runs :
-        begin_refusal t (length state) (length work) 0 ≡ none → too_many (has_ended t (start t)) 0 budget ≡ false →
+        begin_refusal t (length state) (length work) 0 ≡ None → too_many (has_ended t (start t)) 0 budget ≡ false →
         ran_to (outcome_of t (plain_run t budget)) (plain_run t budget).steps (plain_run t budget).state.time
         ≡ ran_at s a (length state) (length work) budget
     unfolding ran_at
     ran_runs e h = rw (e, h)
 
-    module _ (b : Begun) (state₁ work₁ frames₁ : List Float) (e : after_begin b state₁ frames₁ ≡ begin_of t state work frames)
+    module _ (b : Result Begun Refusal) (state₁ work₁ frames₁ : List Float) (e : after_begin b state₁ frames₁ ≡ begin_of t state work frames)
         (uses : drop (begin_uses t (length state) (length work) (length frames)) work₁ ≡ drop (begin_uses t (length state) (length work) (length frames)) work) where
       -- begin refused
-      pub refused_ran : (n : ℕ) → b ≡ begins.Refused n → SkipRan s a budget state work (not_begun n) state₁ work₁
+      pub refused_ran : (n : ℕ) → began_of b ≡ refused_begin n → SkipRan s a budget state work (not_begun n) state₁ work₁
       refused_ran n h =
-          let told : (begun t state work frames).answer ≡ refused_begin n = ap (λ (x : AfterBegin). x.answer) (sym e) ∙ ap began_of h in
+          let told : (begun t state work frames).answer ≡ refused_begin n = ap (λ (x : AfterBegin). x.answer) (sym e) ∙ h in
           let d = demand3 t state work frames in
           record {
-            answer = ran_refused n (refusal_at_lem (some n) ((d.refuses n).0 told));
+            answer = ran_refused n (refusal_at_lem (Some n) ((d.refuses n).0 told));
             untouched =
                 record {
                   state_is = ap (drop (touched s (length state) (length work) (cell_count s))) (ap (λ (x : AfterBegin). x.memory) e ∙ (d.refused_stays n told).0);
@@ -101,16 +101,16 @@ module _ (s : Settings) (a : Float) (state work frames : List Float) (bare : len
           }
 
       -- begin accepted, and advance answered
-      module _ (r : Record) (k : ℕ) (h : b ≡ begins.Accepted r k) (long : length work₁ ≡ length work) where
+      module _ (r : Record) (k : ℕ) (h : began_of b ≡ accepted r k) (long : length work₁ ≡ length work) where
         answered : (begun t state work frames).answer ≡ accepted r k
-        answered = ap (λ (x : AfterBegin). x.answer) (sym e) ∙ ap began_of h
+        answered = ap (λ (x : AfterBegin). x.answer) (sym e) ∙ h
 
-        not_refused : begin_refusal t (length state) (length work) (length frames) ≡ none
+        not_refused : begin_refusal t (length state) (length work) (length frames) ≡ None
         not_refused = go (begin_refusal t (length state) (length work) (length frames)) refl
           where
-            go : (o : Option ℕ) → begin_refusal t (length state) (length work) (length frames) ≡ o → begin_refusal t (length state) (length work) (length frames) ≡ none
-            go (some n) q = absurd (clash n r k (sym (((demand3 t state work frames).refuses n).1 q) ∙ answered))
-            go none q = q
+            go : (o : Option ℕ) → begin_refusal t (length state) (length work) (length frames) ≡ o → begin_refusal t (length state) (length work) (length frames) ≡ None
+            go (Some n) q = absurd (clash n r k (sym (((demand3 t state work frames).refuses n).1 q) ∙ answered))
+            go None q = q
 
         memory_is : state₁ ≡ (begun t state work frames).memory
         memory_is = ap (λ (x : AfterBegin). x.memory) e
@@ -138,13 +138,13 @@ module _ (s : Settings) (a : Float) (state work frames : List Float) (bare : len
               go true q =
                   ap (λ (y : Reply). ran_by y d.record)
                   (ap (λ (y : AfterAdvance). y.reply) after_is ∙ refused_14 t refl state work frames r k answered work₁ frames₁ budget enough q)
-                  ∙ ran_many (refusal_at_lem none not_refused) q
+                  ∙ ran_many (refusal_at_lem None not_refused) q
               go false q =
                   let z = skipped_advance t refl state work frames r k answered work₁ frames₁ budget enough q in
                   ap (λ (y : AfterAdvance). ran_by y.reply y.record') after_is
                   ∙ ap (λ (y : Reply). ran_by y (advance_of r (begun t state work frames).memory work₁ frames₁ budget).record') z.reply
                   ∙ ap (λ (y : Record). ran_to (outcome_of t (plain_run t budget)) y.steps y.time) z.record'
-                  ∙ ran_runs (refusal_at_lem none not_refused) q
+                  ∙ ran_runs (refusal_at_lem None not_refused) q
 
           -- state memory
           abbrev last : Call
@@ -172,9 +172,9 @@ module _ (s : Settings) (a : Float) (state work frames : List Float) (bare : len
               same = ap work_count settings_is
 
               go : (o : Option ℕ) (x : Bool) → option o (λ n. 0) (cond x 0 (work_count r.settings)) ≤ work_count t
-              go (some n) x = omega arith
-              go none true = omega arith
-              go none false = omega (arith, same)
+              go (Some n) x = omega arith
+              go None true = omega arith
+              go None false = omega (arith, same)
 
           work_beyond : drop (work_count t) work₂ ≡ drop (work_count t) work
           work_beyond =

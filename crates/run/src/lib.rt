@@ -6,6 +6,8 @@ mod bytes;
 pub mod carry_out;
 mod model;
 pub mod order;
+pub mod outcome;
+pub mod refusal;
 pub mod report;
 pub mod settings;
 pub mod simulate;

@@ -1,38 +1,28 @@
 // What a run asks of the physics, of the clock and of the frames, by the names of specs/Model.antt.
 ghost use Rattle.std.specs.Prelude.{◌≡◌, ◌+◌, ◌*◌, ◌≤◌, length, drop, if◌then◌else◌};
-ghost use Rattle.std.proofs.Math.Option.{none};
+ghost use Rattle.std.specs.Prelude.{None};
 ghost use Rattle.std.specs.Float.Ieee.{lt};
 ghost use Rattle.vectors.specs.Memory.{part, put};
-ghost use Rattle.physics.specs.BlackHole.{formed_of};
 ghost use Rattle.run.specs.Model.{fault_at, cell_count, work_count, frame_count, state_in, first_state, step_of, holds_nan, frame_of, mass_at};
-ghost use Rattle.run.specs.Answers.{refusal_of, next_in, ClockOf, Lent};
+ghost use Rattle.run.specs.Answers.{next_in, ClockOf, Lent};
+ghost use Rattle.run.specs.Refusal.{refusal_of};
 
 use crate::adaptive_time_step::{TimeStep, next};
+use crate::refusal::Refusal;
 use crate::settings::Settings;
-use crate::simulation_inputs::{Fault, validate};
+use crate::simulation_inputs::validate;
 use crate::state_output_builder;
-use physics::constraints::{BlackHole, black_hole_mass};
+use physics::constraints::black_hole_mass;
 use physics::integration::rk4_step;
 use physics::state::store;
 use physics::state_builder::build_initial_state;
 use vectors::grid::length_at_discretization;
 
-// Whether a call is refused, and by which of document 01's numbers.
-#[derive(Clone, Copy)]
-pub(crate) enum Verdict {
-    Sound,
-    Refused(u8),
-}
-
 // The settings' fault.
-pub(crate) fn fault_in(s: Settings) -> Verdict
+pub(crate) fn fault_in(s: Settings) -> Result<(), Refusal>
     ensures { refusal_of result ≡ fault_at s }
 {
-    let fault = validate(s);
-    match fault {
-        Fault::Sound => Verdict::Sound,
-        Fault::Refused(number) => Verdict::Refused(number),
-    }
+    validate(s)
 }
 
 // How many numbers a state has.
@@ -51,7 +41,7 @@ pub(crate) fn room(s: Settings) -> usize
 
 // How many numbers a frame has.
 pub(crate) fn frame_size(s: Settings) -> usize
-    requires { fault_at s ≡ none }
+    requires { fault_at s ≡ None }
     ensures { result ≡ frame_count s }
 {
     state_output_builder::frame_size(s)
@@ -65,9 +55,9 @@ pub(crate) fn late(s: Settings, time: f64) -> bool
 }
 
 // The mass of the state in state memory, where a black hole has formed.
-pub(crate) fn mass_in(s: Settings, time: f64, state: &[f64]) -> BlackHole
+pub(crate) fn mass_in(s: Settings, time: f64, state: &[f64]) -> Option<f64>
     requires { cell_count s ≤ length state.now }
-    ensures { formed_of result ≡ mass_at (state_in s time state.now) }
+    ensures { result ≡ mass_at (state_in s time state.now) }
 {
     let n = length_at_discretization(s.level);
     let mass = 4 * n;
@@ -78,7 +68,7 @@ pub(crate) fn mass_in(s: Settings, time: f64, state: &[f64]) -> BlackHole
 
 // The clock of the state in state memory.
 pub(crate) fn clock_at(s: Settings, time: f64, state: &[f64]) -> TimeStep
-    requires s_value { fault_at s ≡ none }
+    requires s_value { fault_at s ≡ None }
     requires s_in_bounds { cell_count s ≤ length state.now }
     ensures { ClockOf s (state_in s time state.now) result }
 {
@@ -90,12 +80,12 @@ pub(crate) fn clock_at(s: Settings, time: f64, state: &[f64]) -> TimeStep
 
 // The initial state, made in work memory: its time.
 pub(crate) fn start_state(s: Settings, work: &mut [f64]) -> f64
-    requires s_value { fault_at s ≡ none }
+    requires s_value { fault_at s ≡ None }
     requires s_in_bounds { work_count s ≤ length work.old }
     ensures work_after { next_in s result work.new ≡ first_state s }
     ensures work_unchanged { drop (work_count s) work.new ≡ drop (work_count s) work.old }
 {
-    build_initial_state(s.level, s.amplitude, work);
+    let _ = build_initial_state(s.level, s.amplitude, work);
     0.0
 }
 
@@ -105,7 +95,7 @@ pub(crate) fn step(s: Settings, time: f64, delta: f64, state: &[f64], work: &mut
     ensures work_after { next_in s result work.new ≡ step_of s delta (state_in s time state.now) }
     ensures work_unchanged { drop (work_count s) work.new ≡ drop (work_count s) work.old }
 {
-    rk4_step(s.level, time, delta, state, work);
+    let _ = rk4_step(s.level, time, delta, state, work);
     time + delta
 }
 
@@ -131,7 +121,7 @@ pub(crate) fn store_next(s: Settings, broken: bool, work: &[f64], state: &mut [f
     let n = length_at_discretization(s.level);
     let at = 8 * n;
     let end = 16 * n;
-    store(s.level, &work[at..end], state);
+    let _ = store(s.level, &work[at..end], state);
 }
 
 // The frame of the state in state memory, written from `at` on.

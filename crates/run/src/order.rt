@@ -1,13 +1,35 @@
 // 01's orders: a command, a whole order or how it is refused, and the budgets of its advances.
-ghost use Rattle.std.specs.Prelude.{◌≡◌, ◌+◌, ◌^◌, ◌<◌, if◌then◌else◌, ◌==◌};
-ghost use Rattle.run.specs.Order.{operand_size, switch_of, command_of, command_read_at, no_places, noted, begun, complete};
-ghost use Rattle.run.specs.Order.{setting_fault, begin_fault, unless_begun, command_fault, settings_at, ended, read_order, budget_at};
+ghost use Rattle.std.specs.Prelude.{◌≡◌, ◌+◌, ◌*◌, ◌<◌, ◌≤◌, ◌&&◌, IfOk, IfSome, is_some};
+ghost use Rattle.run.specs.Order.{operand_size, switch_of, command_of, command_read_at, noted, command_fault, setting_fault, begin_fault, begun, complete, settings_at, ended, read_order, budget_at};
+ghost use Rattle.run.specs.OrderAnswers.{number_of, fault_of, meant_by, told_by, command_read_of, read_of, place_of, advances_of, count_of, so_far, Whole, Noted};
 
 use crate::bytes::{byte_at, float_at, number_at};
 use crate::settings::Settings;
-use vectors::answer::and_also;
+use std::num::NonZeroUsize;
+use std::ops::ControlFlow;
 
-// One case for each command byte, and one for what is no command: 01's number 1 or 2.
+// What is wrong with an order, by document 01's number.
+#[derive(Clone, Copy, Debug, PartialEq, Eq)]
+pub enum Fault {
+    // An operand runs past the end, or no 09 came.
+    Cut = 1,
+    // A byte outside 01 to 09, or a switch above 1.
+    Unknown,
+    // A setting repeated or after 07, a second 07, an 08 before 07, a byte after 09.
+    Misplaced,
+    // 07 with a setting missing, 09 before 07.
+    Missing,
+}
+
+impl From<Fault> for u8 {
+    ghost from_gives = { λ f n. n ≡ number_of f };
+
+    fn from(fault: Fault) -> u8 {
+        fault as u8
+    }
+}
+
+// One case for each command byte.
 #[derive(Clone, Copy)]
 pub enum Command {
     Amplitude(f64),
@@ -19,17 +41,16 @@ pub enum Command {
     Begin,
     Advance(u32),
     End,
-    Wrong(u8),
 }
 
-// A command and the position after its operand.
+// A command, or what is wrong with it by itself, and the position after its operand.
 #[derive(Clone, Copy)]
 pub struct CommandRead {
-    pub command: Command,
+    pub command: Result<Command, Fault>,
     pub next: usize,
 }
 
-// Where the operand of each setting stands, where the first command after 07, and how many 08 came. 0 is "not yet": no operand stands there.
+// Where the operand of each setting stands, where the first command after 07, and how many 08 came.
 #[derive(Clone, Copy)]
 pub struct Places {
     pub amplitude: usize,
@@ -42,67 +63,69 @@ pub struct Places {
     pub count: usize,
 }
 
-// 01's number and the position, or what the order says.
+// What an accepted order says, and where.
 #[derive(Clone, Copy)]
-pub enum Read {
-    Refused(u8, usize),
-    Order(Settings, Places),
+pub struct Order {
+    pub settings: Settings,
+    pub places: Places,
 }
 
+// The first fault of an order, and the position that document 01 gives it.
+#[derive(Clone, Copy, Debug, PartialEq, Eq)]
+pub struct Misread {
+    pub fault: Fault,
+    pub position: usize,
+}
+
+// How many bytes follow the command bytes 00 to 09.
+const OPERAND_SIZES: [usize; 10] = [0, 8, 1, 8, 8, 1, 1, 0, 4, 0];
+
 // How many bytes follow a command byte.
+#[tactic(auto, unfolding(crate::specs::Order::operand_size))]
 fn operand_size(code: u8) -> usize
     ensures { result ≡ operand_size code }
 {
-    let sizes = [0usize, 8, 1, 8, 8, 1, 1, 0, 4, 0];
-    let i = code as usize;
-    if i < 10 {
-        return sizes[i];
-    }
-    0
-}
-
-fn is_one(x: u8) -> bool
-    ensures { result ≡ (x == 1) }
-{
-    x == 1
+    OPERAND_SIZES.get(code as usize).copied().unwrap_or(0)
 }
 
 // The operand of 06.
-fn switch_of(x: u8) -> Command
-    ensures { result ≡ switch_of x }
+#[tactic(auto, unfolding(crate::specs::Order::switch_of))]
+fn switch_of(x: u8) -> Result<Command, Fault>
+    ensures { told_by result ≡ switch_of x }
 {
     if 1 < x {
-        return Command::Wrong(2);
+        return Err(Fault::Unknown);
     }
-    Command::Skip(is_one(x))
+    Ok(Command::Skip(x == 1))
 }
 
 // The command of a byte whose operand starts at `from`.
-fn command_of(input: &[u8], from: usize, code: u8) -> Command
-    ensures { result ≡ command_of input.now from code }
+#[tactic(auto, using(crate::proofs::Orders::other), unfolding(crate::specs::Order::command_of))]
+fn command_of(input: &[u8], from: usize, code: u8) -> Result<Command, Fault>
+    ensures { told_by result ≡ command_of input.now from code }
 {
     match code {
-        1 => Command::Amplitude(float_at(input, from)),
-        2 => Command::Level(byte_at(input, from)),
-        3 => Command::MaxTime(float_at(input, from)),
-        4 => Command::Interval(float_at(input, from)),
-        5 => Command::DxLevel(byte_at(input, from)),
+        1 => Ok(Command::Amplitude(float_at(input, from))),
+        2 => Ok(Command::Level(byte_at(input, from))),
+        3 => Ok(Command::MaxTime(float_at(input, from))),
+        4 => Ok(Command::Interval(float_at(input, from))),
+        5 => Ok(Command::DxLevel(byte_at(input, from))),
         6 => switch_of(byte_at(input, from)),
-        7 => Command::Begin,
-        8 => Command::Advance(number_at(input, from)),
-        9 => Command::End,
-        _ => Command::Wrong(2),
+        7 => Ok(Command::Begin),
+        8 => Ok(Command::Advance(number_at(input, from))),
+        9 => Ok(Command::End),
+        _ => Err(Fault::Unknown),
     }
 }
 
 // The command whose byte stands at `at`. An unknown byte has no operand, so that it is never cut.
 pub fn read_command(input: &[u8], at: usize) -> CommandRead
-    ensures { result ≡ command_read_at input.now at }
+    ensures { command_read_of result ≡ command_read_at input.now at }
 {
     let len = input.len();
     if len <= at {
         return CommandRead {
-            command: Command::Wrong(1),
+            command: Err(Fault::Cut),
             next: len,
         };
     }
@@ -111,168 +134,187 @@ pub fn read_command(input: &[u8], at: usize) -> CommandRead
     let size = operand_size(code);
     if len - from < size {
         return CommandRead {
-            command: Command::Wrong(1),
+            command: Err(Fault::Cut),
             next: len,
         };
     }
-    let command = command_of(input, from, code);
     CommandRead {
-        command,
+        command: command_of(input, from, code),
         next: from + size,
     }
 }
 
-// Whether 07 came.
-fn has_begun(p: Places) -> bool
-    ensures { result ≡ begun p }
-{
-    0 < p.advances
+// What came so far: where the operand of each setting stands, and the calls once 07 came. No operand stands at 0.
+#[derive(Clone, Copy, Default)]
+struct Seen {
+    amplitude: Option<NonZeroUsize>,
+    level: Option<NonZeroUsize>,
+    max_time: Option<NonZeroUsize>,
+    interval: Option<NonZeroUsize>,
+    dx_level: Option<NonZeroUsize>,
+    skip: Option<NonZeroUsize>,
+    calls: Option<Calls>,
 }
 
-// Whether all six settings came.
-fn is_complete(p: Places) -> bool
-    ensures { result ≡ complete p }
-{
-    let a = and_also(0 < p.amplitude, 0 < p.level);
-    let b = and_also(0 < p.max_time, 0 < p.interval);
-    let c = and_also(0 < p.dx_level, 0 < p.skip);
-    and_also(and_also(a, b), c)
+// Where the first command after 07 stands, and how many 08 came.
+#[derive(Clone, Copy)]
+struct Calls {
+    advances: NonZeroUsize,
+    count: usize,
 }
 
-fn pick(test: bool, yes: u8, no: u8) -> u8
-    ensures { result ≡ (if test then yes else no) }
-{
-    if test { yes } else { no }
-}
-
-// 3 for a setting that is repeated or stands after 07, else 0; `place` is where it stood before.
-fn setting_fault(p: Places, place: usize) -> u8
-    ensures { result ≡ setting_fault p place }
-{
-    pick(has_begun(p), 3, pick(0 < place, 3, 0))
-}
-
-// 3 for a second 07, 4 for one with a setting missing, else 0.
-fn begin_fault(p: Places) -> u8
-    ensures { result ≡ begin_fault p }
-{
-    pick(has_begun(p), 3, pick(is_complete(p), 0, 4))
-}
-
-// The number for a command that stands before 07, else 0.
-fn unless_begun(p: Places, number: u8) -> u8
-    ensures { result ≡ unless_begun p number }
-{
-    pick(has_begun(p), 0, number)
-}
-
-// 01's number of a command's fault after those that came, or 0.
-fn command_fault(p: Places, c: Command) -> u8
-    ensures { result ≡ command_fault p c }
-{
-    match c {
-        Command::Amplitude(_) => setting_fault(p, p.amplitude),
-        Command::Level(_) => setting_fault(p, p.level),
-        Command::MaxTime(_) => setting_fault(p, p.max_time),
-        Command::Interval(_) => setting_fault(p, p.interval),
-        Command::DxLevel(_) => setting_fault(p, p.dx_level),
-        Command::Skip(_) => setting_fault(p, p.skip),
-        Command::Begin => begin_fault(p),
-        Command::Advance(_) => unless_begun(p, 3),
-        Command::End => unless_begun(p, 4),
-        Command::Wrong(n) => n,
+#[tactic(auto, using(crate::proofs::Orders::came, crate::proofs::Orders::began), unfolding(crate::specs::Order::setting_fault, crate::specs::Order::begin_fault, crate::specs::Order::unless_begun, crate::specs::Order::command_fault, crate::specs::Order::noted, crate::specs::Order::begun, crate::specs::Order::complete))]
+impl Seen {
+    // With the next command too, `from` the position after its byte; all places if it is 09; or what is wrong with it.
+    fn after(
+        mut self,
+        command: Result<Command, Fault>,
+        from: usize,
+    ) -> Result<ControlFlow<Places, Seen>, Fault>
+        requires count { (so_far self).count < from }
+        requires whole { Whole (so_far self) }
+        ensures fault { fault_of result ≡ command_fault (so_far self) (told_by command) }
+        ensures noted { IfOk result (Noted (so_far self) (told_by command) from) }
+    {
+        match command? {
+            Command::Amplitude(_) => self.amplitude = self.setting(self.amplitude, from)?,
+            Command::Level(_) => self.level = self.setting(self.level, from)?,
+            Command::MaxTime(_) => self.max_time = self.setting(self.max_time, from)?,
+            Command::Interval(_) => self.interval = self.setting(self.interval, from)?,
+            Command::DxLevel(_) => self.dx_level = self.setting(self.dx_level, from)?,
+            Command::Skip(_) => self.skip = self.setting(self.skip, from)?,
+            Command::Begin => self.calls = self.begin(from)?,
+            Command::Advance(_) => {
+                let mut calls = self.calls.ok_or(Fault::Misplaced)?;
+                calls.count += 1;
+                self.calls = Some(calls);
+            }
+            Command::End => {
+                let places = self.places().ok_or(Fault::Missing)?;
+                return Ok(ControlFlow::Break(places));
+            }
+        }
+        Ok(ControlFlow::Continue(self))
     }
-}
 
-fn no_places() -> Places
-    ensures { result ≡ no_places }
-{
-    Places {
-        amplitude: 0,
-        level: 0,
-        max_time: 0,
-        interval: 0,
-        dx_level: 0,
-        skip: 0,
-        advances: 0,
-        count: 0,
+    // The place of a setting's operand, which starts at `from`; `place` is where it stood before.
+    fn setting(
+        self,
+        place: Option<NonZeroUsize>,
+        from: usize,
+    ) -> Result<Option<NonZeroUsize>, Fault>
+        ensures fault { fault_of result ≡ setting_fault (so_far self) (place_of place) }
+        ensures place { IfOk result (λ o. place_of o ≡ from) }
+    {
+        if self.calls.is_some() || place.is_some() {
+            return Err(Fault::Misplaced);
+        }
+        Ok(NonZeroUsize::new(from))
     }
-}
 
-// The places once c came too; `from` is the position after its byte.
-fn note(p: Places, c: Command, from: usize) -> Places
-    requires { p.count + 1 < 2 ^ 64 }
-    ensures { result ≡ noted p c from }
-{
-    let mut q = p;
-    match c {
-        Command::Amplitude(_) => q.amplitude = from,
-        Command::Level(_) => q.level = from,
-        Command::MaxTime(_) => q.max_time = from,
-        Command::Interval(_) => q.interval = from,
-        Command::DxLevel(_) => q.dx_level = from,
-        Command::Skip(_) => q.skip = from,
-        Command::Begin => q.advances = from,
-        Command::Advance(_) => q.count = p.count + 1,
-        Command::End => {}
-        Command::Wrong(_) => {}
+    // The calls after an 07 whose next command stands at `from`.
+    fn begin(self, from: usize) -> Result<Option<Calls>, Fault>
+        requires { 0 < from }
+        ensures fault { fault_of result ≡ begin_fault (so_far self) }
+        ensures calls { IfOk result (λ o. (advances_of o ≡ from) × (count_of o ≡ count_of self.calls)) }
+    {
+        if self.calls.is_some() {
+            return Err(Fault::Misplaced);
+        }
+        if !self.is_complete() {
+            return Err(Fault::Missing);
+        }
+        Ok(NonZeroUsize::new(from).map(|advances| Calls { advances, count: 0 }))
     }
-    q
+
+    // Whether all six settings came.
+    fn is_complete(self) -> bool
+        ensures { result ≡ complete (so_far self) }
+    {
+        self.amplitude.is_some()
+            && self.level.is_some()
+            && self.max_time.is_some()
+            && self.interval.is_some()
+            && self.dx_level.is_some()
+            && self.skip.is_some()
+    }
+
+    // All places, where all came.
+    fn places(self) -> Option<Places>
+        ensures some { is_some result ≡ (begun (so_far self) && complete (so_far self)) }
+        ensures all { IfSome result (λ p. p ≡ so_far self) }
+    {
+        let calls = self.calls?;
+        Some(Places {
+            amplitude: self.amplitude?.get(),
+            level: self.level?.get(),
+            max_time: self.max_time?.get(),
+            interval: self.interval?.get(),
+            dx_level: self.dx_level?.get(),
+            skip: self.skip?.get(),
+            advances: calls.advances.get(),
+            count: calls.count,
+        })
+    }
 }
 
 // The operands at these places.
+#[tactic(auto, unfolding(crate::specs::Order::settings_at))]
 fn settings_at(input: &[u8], p: Places) -> Settings
     ensures { result ≡ settings_at input.now p }
 {
-    let amplitude = float_at(input, p.amplitude);
-    let level = byte_at(input, p.level);
-    let max_time = float_at(input, p.max_time);
-    let interval = float_at(input, p.interval);
-    let dx_level = byte_at(input, p.dx_level);
-    let skip = is_one(byte_at(input, p.skip));
     Settings {
-        amplitude,
-        level: level as u32,
-        max_time,
-        interval,
-        dx_level: dx_level as u32,
-        skip,
+        amplitude: float_at(input, p.amplitude),
+        level: byte_at(input, p.level) as u32,
+        max_time: float_at(input, p.max_time),
+        interval: float_at(input, p.interval),
+        dx_level: byte_at(input, p.dx_level) as u32,
+        skip: byte_at(input, p.skip) == 1,
     }
 }
 
 // After 09: `from` is the position after it.
-fn end_order(input: &[u8], from: usize, p: Places) -> Read
-    ensures { result ≡ ended input.now from p }
+#[tactic(auto, unfolding(crate::specs::Order::ended))]
+fn end_order(input: &[u8], from: usize, places: Places) -> Result<Order, Misread>
+    ensures { read_of result ≡ ended input.now from places }
 {
     if from < input.len() {
-        return Read::Refused(3, from);
+        return Err(Misread {
+            fault: Fault::Misplaced,
+            position: from,
+        });
     }
-    Read::Order(settings_at(input, p), p)
+    Ok(Order {
+        settings: settings_at(input, places),
+        places,
+    })
 }
 
 // The whole order, or how it is refused.
-pub fn read_order(input: &[u8]) -> Read
-    ensures { result ≡ read_order input.now }
+pub fn read_order(input: &[u8]) -> Result<Order, Misread>
+    ensures { read_of result ≡ read_order input.now }
 {
-    let len = input.len();
-    let mut p = no_places();
+    let mut seen = Seen::default();
     let mut at = 0;
-    while at < len {
-        let code = input[at];
-        let read = read_command(input, at);
-        let command = read.command;
+    while at < input.len() {
         let from = at + 1;
-        let fault = command_fault(p, command);
-        if fault != 0 {
-            return Read::Refused(fault, at);
+        let read = read_command(input, at);
+        match seen.after(read.command, from) {
+            Ok(ControlFlow::Continue(next)) => seen = next,
+            Ok(ControlFlow::Break(places)) => return end_order(input, from, places),
+            Err(fault) => {
+                return Err(Misread {
+                    fault,
+                    position: at,
+                });
+            }
         }
-        if code == 9 {
-            return end_order(input, from, p);
-        }
-        p = note(p, command, from);
         at = read.next;
     }
-    Read::Refused(1, len)
+    Err(Misread {
+        fault: Fault::Cut,
+        position: input.len(),
+    })
 }
 
 // The budget of the 08 number `k`, from 0, of those that start at `advances`.

@@ -1,44 +1,42 @@
 // From use_cases/simulate.rs: a run in calls, a begin and then any number of advances.
 ghost use Rattle.std.specs.Prelude.{◌≡◌, ◌+◌, ◌-◌, ◌*◌, ◌^◌, ◌<◌, ◌≤◌, true, false, ◌&&◌, length, drop, if◌then◌else◌, nat_le, nat_lt};
-ghost use Rattle.std.proofs.Math.Option.{none};
+ghost use Rattle.std.specs.Prelude.{None};
 ghost use Rattle.std.specs.Float.Ieee.{lt};
 ghost use Rattle.run.specs.Model.{fault_at, cell_count, work_count, frame_count, state_in};
 ghost use Rattle.run.specs.PlainRun.{has_ended, outcome_of};
 ghost use Rattle.run.specs.Tally.{ran, too_short};
 ghost use Rattle.run.specs.Calls.{machine_of, lent_refusal, begin_of, begin_uses, advance_refusal, attempts_from, left_by, advance_of, advance_uses, is_idle};
-ghost use Rattle.run.specs.Answers.{refusal_of, reply_of, after_begin, after_advance, record_after, CanAttempt, Attempted};
+ghost use Rattle.run.specs.Outcome.{meant_by};
+ghost use Rattle.run.specs.Refusal.{refusal_of};
+ghost use Rattle.run.specs.Answers.{reply_of, after_begin, after_advance, record_after, CanAttempt, Attempted};
 
 use crate::adaptive_time_step::TimeStep;
 use crate::model::{
-    Verdict, clock_at, fault_in, frame_size, has_nan, late, mass_in, room, size, start_state, step,
+    clock_at, fault_in, frame_size, has_nan, late, mass_in, room, size, start_state, step,
     store_next, write_frame,
 };
+use crate::outcome::Outcome;
+use crate::refusal::Refusal;
 use crate::settings::{Record, Settings};
-use physics::constraints::BlackHole;
-use vectors::answer::and_also;
 
-// What an advance answers; each but a refusal has how many frames it wrote, full first the attempts made, and collapse the mass.
+// What an advance answers that is not refused: full with the attempts made, or the outcome; each with how many frames it wrote.
 #[derive(Clone, Copy)]
 pub enum Answer {
-    Refused(u8),
     Full(u32, usize),
-    Collapse(f64, usize),
-    Broken(usize),
-    Timeout(usize),
-    Spent(usize),
+    Ran(Outcome, usize),
 }
 
 #[derive(Clone, Copy)]
 pub struct Advanced {
-    pub answer: Answer,
+    pub answer: Result<Answer, Refusal>,
     pub record: Record,
 }
 
-// What a begin answers: a refusal's number, or the record and how many frames it wrote.
+// What a begin answers that is not refused: the record, and how many frames it wrote.
 #[derive(Clone, Copy)]
-pub enum Begun {
-    Refused(u8),
-    Accepted(Record, usize),
+pub struct Begun {
+    pub record: Record,
+    pub count: usize,
 }
 
 // A run while an advance goes on: its record, and how many frames the advance wrote.
@@ -52,63 +50,52 @@ struct Live {
 fn too_short(s: Settings, state: usize, work: usize) -> bool
     ensures { result ≡ too_short s state work }
 {
-    if state < size(s) {
-        return true;
-    }
-    work < room(s)
+    state < size(s) || work < room(s)
 }
 
 // Whether the run has made a step and is past its max time.
 fn timed_out(run: Record) -> bool
     ensures { result ≡ (nat_le 1 run.steps && lt run.settings.max_time run.time) }
 {
-    if run.steps < 1 {
-        return false;
-    }
-    late(run.settings, run.time)
+    1 <= run.steps && late(run.settings, run.time)
 }
 
 // Whether the run has ended.
+#[tactic(auto, using(crate::proofs::Leaves::late_in), unfolding(crate::specs::PlainRun::ended))]
 fn has_ended(run: Record, state: &[f64]) -> bool
     requires { cell_count run.settings ≤ length state.now }
     ensures { result ≡ has_ended run.settings (machine_of run state.now) }
 {
-    let s = run.settings;
-    if let BlackHole::Formed(_) = mass_in(s, run.time, state) {
-        return true;
-    }
-    if run.broken {
-        return true;
-    }
-    timed_out(run)
+    mass_in(run.settings, run.time, state).is_some() || timed_out(run) || run.broken
 }
 
-// The run's outcome, with how many frames were written.
-fn outcome_of(run: Record, state: &[f64], count: usize) -> Answer
+// The run's outcome.
+#[tactic(auto, using(crate::proofs::Leaves::late_in), unfolding(crate::specs::PlainRun::outcome))]
+fn outcome_of(run: Record, state: &[f64]) -> Outcome
     requires { cell_count run.settings ≤ length state.now }
-    ensures { reply_of result ≡ ran (outcome_of run.settings (machine_of run state.now)) count }
+    ensures { meant_by result ≡ outcome_of run.settings (machine_of run state.now) }
 {
     let s = run.settings;
-    if let BlackHole::Formed(mass) = mass_in(s, run.time, state) {
-        return Answer::Collapse(mass, count);
+    if let Some(mass) = mass_in(s, run.time, state) {
+        return Outcome::Collapse(mass);
     }
     if run.broken {
-        return Answer::Broken(count);
+        return Outcome::Broken;
     }
     if timed_out(run) {
-        return Answer::Timeout(count);
+        return Outcome::Timeout;
     }
-    Answer::Spent(count)
+    Outcome::Spent
 }
 
 // Whether a frame step comes, and fewer numbers of a frame memory are left than a frame has.
 fn is_full(s: Settings, framed: bool, count: usize, room: usize) -> bool
-    requires s_value { fault_at s ≡ none }
+    requires s_value { fault_at s ≡ None }
     requires s_bound { count * frame_count s ≤ room }
     ensures { result ≡ (framed && nat_lt (room - count * frame_count s) (frame_count s)) }
 {
     let f = frame_size(s);
-    and_also(framed, room - count * f < f)
+    framed && room - count * f < f
 }
 
 // The record after an attempt whose next state has this time: the broken mark alone, or that time and one step more.
@@ -116,20 +103,16 @@ fn record_after(run: Record, time: f64, broken: bool) -> Record
     requires { run.steps + 1 < 2 ^ 32 }
     ensures { result ≡ record_after run time broken }
 {
-    let s = run.settings;
     if broken {
         return Record {
-            settings: s,
-            time: run.time,
-            steps: run.steps,
             broken: true,
+            ..run
         };
     }
     Record {
-        settings: s,
-        time: time,
+        time,
         steps: run.steps + 1,
-        broken: run.broken,
+        ..run
     }
 }
 
@@ -150,7 +133,7 @@ fn attempt_on(
     let broken = has_nan(s, time, work);
     store_next(s, broken, work, state);
     let next = record_after(run, time, broken);
-    if and_also(clock.framed, !broken) {
+    if clock.framed && !broken {
         write_frame(s, time, state, work, frames, live.count * frame_size(s));
         return Live {
             run: next,
@@ -163,6 +146,18 @@ fn attempt_on(
     }
 }
 
+// A run whose attempts end here, with its outcome.
+fn ended(live: Live, state: &[f64]) -> Advanced
+    requires { cell_count live.run.settings ≤ length state.now }
+    ensures answer { reply_of result.answer ≡ ran (outcome_of live.run.settings (machine_of live.run state.now)) live.count }
+    ensures run { result.record ≡ live.run }
+{
+    Advanced {
+        record: live.run,
+        answer: Ok(Answer::Ran(outcome_of(live.run, state), live.count)),
+    }
+}
+
 // Makes at most so many attempts, and stops before a frame step with no room for its frame.
 fn attempts(
     run: Record,
@@ -171,60 +166,45 @@ fn attempts(
     frames: &mut [f64],
     budget: u32,
 ) -> Advanced
-    requires { advance_refusal run state.old (length work.old) budget ≡ none }
+    requires { advance_refusal run state.old (length work.old) budget ≡ None }
     ensures frames_after { after_advance result state.new frames.new ≡ left_by run.settings state.old frames.old (attempts_from run.settings (length frames.old) budget 0 (machine_of run state.old)) }
     ensures work_unchanged { drop (if is_idle run state.old budget then 0 else work_count run.settings) work.new ≡ drop (if is_idle run state.old budget then 0 else work_count run.settings) work.old }
 {
-    let mut live = Live { run: run, count: 0 };
-    let mut made: u32 = 0;
-    while made < budget {
+    let mut live = Live { run, count: 0 };
+    for made in 0..budget {
         let current = live.run;
-        let s = current.settings;
         if has_ended(current, state) {
-            let outcome = outcome_of(current, state, live.count);
-            return Advanced {
-                answer: outcome,
-                record: current,
-            };
+            return ended(live, state);
         }
-        let clock = clock_at(s, current.time, state);
-        if is_full(s, clock.framed, live.count, frames.len()) {
+        let clock = clock_at(current.settings, current.time, state);
+        if is_full(current.settings, clock.framed, live.count, frames.len()) {
             return Advanced {
-                answer: Answer::Full(made, live.count),
                 record: current,
+                answer: Ok(Answer::Full(made, live.count)),
             };
         }
         live = attempt_on(live, clock, state, work, frames);
-        made += 1;
     }
-    let last = live.run;
-    let outcome = outcome_of(last, state, live.count);
-    Advanced {
-        answer: outcome,
-        record: last,
-    }
+    ended(live, state)
 }
 
-// Whether an advance is refused: 5, 6, 7, 11 or 14.
-fn advance_verdict(run: Record, state: &[f64], work: usize, budget: u32) -> Verdict
+// Whether an advance is refused.
+#[tactic(auto, unfolding(crate::specs::Calls::advance_refusal))]
+fn advance_verdict(run: Record, state: &[f64], work: usize, budget: u32) -> Result<(), Refusal>
     ensures { refusal_of result ≡ advance_refusal run state.now work budget }
 {
-    let s = run.settings;
-    if let Verdict::Refused(n) = fault_in(s) {
-        return Verdict::Refused(n);
+    fault_in(run.settings)?;
+    if too_short(run.settings, state.len(), work) {
+        return Err(Refusal::Memory);
     }
-    if too_short(s, state.len(), work) {
-        return Verdict::Refused(11);
+    if !has_ended(run, state) && run.steps as u64 + budget as u64 > 2147483647 {
+        return Err(Refusal::Steps);
     }
-    let ended = has_ended(run, state);
-    let many = run.steps as u64 + budget as u64 > 2147483647;
-    if and_also(!ended, many) {
-        return Verdict::Refused(14);
-    }
-    Verdict::Sound
+    Ok(())
 }
 
 // Goes on with a run, by at most so many attempts.
+#[tactic(auto, unfolding(crate::specs::Calls::advance_of, crate::specs::Calls::advance_uses))]
 pub fn advance(
     run: Record,
     state: &mut [f64],
@@ -235,38 +215,39 @@ pub fn advance(
     ensures frames_after { after_advance result state.new frames.new ≡ advance_of run state.old work.old frames.old budget }
     ensures work_unchanged { drop (advance_uses run state.old (length work.old) budget) work.new ≡ drop (advance_uses run state.old (length work.old) budget) work.old }
 {
-    let verdict = advance_verdict(run, state, work.len(), budget);
-    match verdict {
-        Verdict::Refused(n) => Advanced {
-            answer: Answer::Refused(n),
+    if let Err(refusal) = advance_verdict(run, state, work.len(), budget) {
+        return Advanced {
             record: run,
-        },
-        Verdict::Sound => attempts(run, state, work, frames, budget),
+            answer: Err(refusal),
+        };
     }
+    attempts(run, state, work, frames, budget)
 }
 
-// Whether a begin is refused before the initial state is made: 5, 6, 7, 11 or 12.
-fn begin_verdict(s: Settings, state: usize, work: usize, frames: usize) -> Verdict
+// Whether a begin is refused before the initial state is made.
+#[tactic(auto, unfolding(crate::specs::Calls::lent_refusal))]
+fn begin_verdict(s: Settings, state: usize, work: usize, frames: usize) -> Result<(), Refusal>
     ensures { refusal_of result ≡ lent_refusal s state work frames }
 {
-    if let Verdict::Refused(n) = fault_in(s) {
-        return Verdict::Refused(n);
-    }
+    fault_in(s)?;
     if too_short(s, state, work) {
-        return Verdict::Refused(11);
+        return Err(Refusal::Memory);
     }
-    if s.skip {
-        return Verdict::Sound;
+    if !s.skip && frames < frame_size(s) {
+        return Err(Refusal::Frames);
     }
-    if frames < frame_size(s) {
-        return Verdict::Refused(12);
-    }
-    Verdict::Sound
+    Ok(())
 }
 
 // Makes the initial state and its frame.
-fn start_run(s: Settings, state: &mut [f64], work: &mut [f64], frames: &mut [f64]) -> Begun
-    requires { lent_refusal s (length state.old) (length work.old) (length frames.old) ≡ none }
+#[tactic(auto, using(crate::proofs::Refusals::lent_all))]
+fn start_run(
+    s: Settings,
+    state: &mut [f64],
+    work: &mut [f64],
+    frames: &mut [f64],
+) -> Result<Begun, Refusal>
+    requires { lent_refusal s (length state.old) (length work.old) (length frames.old) ≡ None }
     ensures frames_after { after_begin result state.new frames.new ≡ begin_of s state.old work.old frames.old }
     ensures work_unchanged { drop (work_count s) work.new ≡ drop (work_count s) work.old }
 {
@@ -274,29 +255,38 @@ fn start_run(s: Settings, state: &mut [f64], work: &mut [f64], frames: &mut [f64
     let refused = has_nan(s, time, work);
     store_next(s, refused, work, state);
     if refused {
-        return Begun::Refused(13);
+        return Err(Refusal::InitialNan);
     }
     let run = Record {
         settings: s,
-        time: time,
+        time,
         steps: 0,
         broken: false,
     };
     if s.skip {
-        return Begun::Accepted(run, 0);
+        return Ok(Begun {
+            record: run,
+            count: 0,
+        });
     }
     write_frame(s, time, state, work, frames, 0);
-    Begun::Accepted(run, 1)
+    Ok(Begun {
+        record: run,
+        count: 1,
+    })
 }
 
 // Begins a run.
-pub fn begin(settings: Settings, state: &mut [f64], work: &mut [f64], frames: &mut [f64]) -> Begun
+#[tactic(auto, unfolding(crate::specs::Calls::begin_uses))]
+pub fn begin(
+    settings: Settings,
+    state: &mut [f64],
+    work: &mut [f64],
+    frames: &mut [f64],
+) -> Result<Begun, Refusal>
     ensures frames_after { after_begin result state.new frames.new ≡ begin_of settings state.old work.old frames.old }
     ensures work_unchanged { drop (begin_uses settings (length state.old) (length work.old) (length frames.old)) work.new ≡ drop (begin_uses settings (length state.old) (length work.old) (length frames.old)) work.old }
 {
-    let verdict = begin_verdict(settings, state.len(), work.len(), frames.len());
-    match verdict {
-        Verdict::Refused(n) => Begun::Refused(n),
-        Verdict::Sound => start_run(settings, state, work, frames),
-    }
+    begin_verdict(settings, state.len(), work.len(), frames.len())?;
+    start_run(settings, state, work, frames)
 }

@@ -1,34 +1,52 @@
 // A skip run by one begin and one advance, with no frame memory.
 ghost use Rattle.std.specs.Prelude.{◌≡◌};
-ghost use Rattle.run.specs.Answers.{reply_of, ran_of};
+ghost use Rattle.run.specs.Answers.{refusal_by, reply_of, ran_of};
 ghost use Rattle.run.specs.SkipRun.{ran_by, SkipRan};
 
-use crate::settings::{Record, Settings};
-use crate::simulate::{Advanced, Answer, Begun, advance, begin};
+use crate::outcome::Outcome;
+use crate::refusal::Refusal;
+use crate::settings::Settings;
+use crate::simulate::{Advanced, Answer, advance, begin};
 
-// What a run answers: the number that begin or advance refused with, or the outcome, collapse with its mass first, each with steps and time.
+// How a run stands after its budget.
 #[derive(Clone, Copy)]
-pub enum Ran {
-    NotBegun(u8),
-    Refused(u8),
-    Collapse(f64, u32, f64),
-    Broken(u32, f64),
-    Timeout(u32, f64),
-    Spent(u32, f64),
+pub struct Ended {
+    pub outcome: Outcome,
+    pub steps: u32,
+    pub time: f64,
 }
 
-// What an advance told.
-fn told(answer: Answer, after: Record) -> Ran
-    ensures { ran_of result ≡ ran_by (reply_of answer) after }
-{
-    match answer {
-        Answer::Refused(n) => Ran::Refused(n),
-        Answer::Full(_, _) => Ran::Spent(after.steps, after.time),
-        Answer::Collapse(mass, _) => Ran::Collapse(mass, after.steps, after.time),
-        Answer::Broken(_) => Ran::Broken(after.steps, after.time),
-        Answer::Timeout(_) => Ran::Timeout(after.steps, after.time),
-        Answer::Spent(_) => Ran::Spent(after.steps, after.time),
+// Which call refused a run, and why.
+#[derive(Clone, Copy, Debug, PartialEq, Eq)]
+pub enum NotRun {
+    Begin(Refusal),
+    Advance(Refusal),
+}
+
+impl From<NotRun> for Refusal {
+    ghost from_gives = { λ n r. r ≡ refusal_by n };
+
+    fn from(not_run: NotRun) -> Refusal {
+        match not_run {
+            NotRun::Begin(refusal) => refusal,
+            NotRun::Advance(refusal) => refusal,
+        }
     }
+}
+
+// What an advance told. With skip it is never full.
+fn told(advanced: Advanced) -> Result<Ended, NotRun>
+    ensures { ran_of result ≡ ran_by (reply_of advanced.answer) advanced.record }
+{
+    let outcome = match advanced.answer.map_err(NotRun::Advance)? {
+        Answer::Full(_, _) => Outcome::Spent,
+        Answer::Ran(outcome, _) => outcome,
+    };
+    Ok(Ended {
+        outcome,
+        steps: advanced.record.steps,
+        time: advanced.record.time,
+    })
 }
 
 // The run of these settings at this amplitude.
@@ -38,26 +56,15 @@ pub fn skip_run(
     budget: u32,
     state: &mut [f64],
     work: &mut [f64],
-) -> Ran
+) -> Result<Ended, NotRun>
     ensures { SkipRan s amplitude budget state.old work.old (ran_of result) state.new work.new }
 {
     let at = Settings {
-        amplitude: amplitude,
-        level: s.level,
-        max_time: s.max_time,
-        interval: s.interval,
-        dx_level: s.dx_level,
+        amplitude,
         skip: true,
+        ..s
     };
     let mut none = [0.0; 0];
-    let begun = begin(at, state, work, &mut none);
-    match begun {
-        Begun::Refused(n) => Ran::NotBegun(n),
-        Begun::Accepted(record, _) => {
-            let advanced = advance(record, state, work, &mut none, budget);
-            let answer = advanced.answer;
-            let after = advanced.record;
-            told(answer, after)
-        }
-    }
+    let begun = begin(at, state, work, &mut none).map_err(NotRun::Begin)?;
+    told(advance(begun.record, state, work, &mut none, budget))
 }

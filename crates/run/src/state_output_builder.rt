@@ -1,11 +1,13 @@
 // From use_cases/state_output_builder.rs: a frame, which is the fields of `StateOutput` one after another.
-ghost use Rattle.std.specs.Prelude.{◌≡◌, ◌+◌, ◌*◌, ◌≤◌, length, drop};
+ghost use Rattle.std.specs.Prelude.{◌≡◌, ◌+◌, ◌-◌, ◌*◌, ◌^◌, ◌≤◌, length, drop};
 ghost use Rattle.vectors.specs.Grid.{points_of, spacing_of};
 ghost use Rattle.vectors.specs.Memory.{part, put};
 ghost use Rattle.vectors.specs.Stencil.{diff_of};
 ghost use Rattle.physics.specs.State.{state_in};
 ghost use Rattle.run.specs.Frames.{samples_of, frame_size_of, frame_of};
-ghost use Rattle.run.specs.FrameWriting.{every_of, Sampling, Vectors, fields_of, constraints_of, energy_of, output_of, GradientRoom, FrameRoom};
+ghost use Rattle.run.specs.FrameWriting.{every_of, Sampling, vector_samples, fields_of, constraints_of, energy_of, output_of, GradientRoom, FrameRoom};
+ghost use Rattle.run.specs.FramePlaces.{place_of};
+ghost use Rattle.run.specs.InputsLaws.{Accepted};
 ghost use Rattle.run.specs.WriteLaws.{Wrote};
 
 use crate::settings::Settings;
@@ -13,22 +15,29 @@ use physics::state::total_energy;
 use vectors::diff::diff;
 use vectors::grid::length_at_discretization;
 
-// Where each vector stands in state memory: after so many others.
-const FIELD: usize = 0;
+// The vectors of a state in the order in which they stand in its memory.
+#[derive(Clone, Copy)]
+enum Vector {
+    Field,
+    ConjMomentum,
+    AlternateMass,
+    EnergyDensity,
+    Mass,
+    RadialFactor,
+    Lapse,
+    CharSpeed,
+}
 
-const CONJ_MOMENTUM: usize = 1;
-
-const ALTERNATE_MASS: usize = 2;
-
-const ENERGY_DENSITY: usize = 3;
-
-const MASS: usize = 4;
-
-const RADIAL_FACTOR: usize = 5;
-
-const LAPSE: usize = 6;
-
-const CHAR_SPEED: usize = 7;
+// A state whose vectors have n numbers each, and what is sampled of each: every step-th number from the first on, count of them.
+#[derive(Clone, Copy)]
+struct Sampled<'a> {
+    state: &'a [f64],
+    n: usize,
+    step: usize,
+    count: usize,
+    ghost inside: { Sampling n step count },
+    ghost whole: { 8 * n ≤ length state.now },
+}
 
 // The numbers of a frame; 0 for a dx level above 16.
 pub fn frame_size(s: Settings) -> usize
@@ -37,11 +46,11 @@ pub fn frame_size(s: Settings) -> usize
     if 16 < s.dx_level {
         return 0;
     }
-    2 + 9 * samples(s.dx_level)
+    2 + 9 * sample_count(s.dx_level)
 }
 
-// The samples of a vector: 2^dx_level + 1, none above level 16.
-fn samples(dx_level: u32) -> usize
+// How many samples a vector has: 2^dx_level + 1, none above level 16.
+fn sample_count(dx_level: u32) -> usize
     ensures { result ≡ samples_of dx_level }
 {
     if 16 < dx_level {
@@ -64,13 +73,12 @@ pub(crate) fn write_frame(
         × (drop (40 * points_of s.level) work.new ≡ drop (40 * points_of s.level) work.old)
         × (length work.new ≡ length work.old) }
 {
-    let n = length_at_discretization(s.level);
-    let count = samples(s.dx_level);
-    let step = 1usize << (s.level - s.dx_level);
+    let sampled = Sampled::new(s, state);
+    let n = sampled.n;
     let from = 17 * n;
     let end = from + n;
     compute_radial_gradient(s.level, n, state, work, from);
-    write_output(time, state, &work[from..end], n, step, count, frames, at);
+    sampled.write_output(time, &work[from..end], frames, at);
 }
 
 // The radial gradient of the field, into the n numbers of work memory from `from` on.
@@ -79,119 +87,93 @@ fn compute_radial_gradient(level: u32, n: usize, state: &[f64], work: &mut [f64]
     ensures { Wrote from (diff_of (spacing_of level) (part (0 * n) n state.now)) work.old work.new }
 {
     let end = from + n;
-    diff(level, &state[0..n], &mut work[from..end]);
+    let _ = diff(level, &state[0..n], &mut work[from..end]);
 }
 
-// Writes a frame whose radial gradient is at hand.
-fn write_output(
-    time: f64,
-    state: &[f64],
-    radial_gradient: &[f64],
-    n: usize,
-    step: usize,
-    count: usize,
-    frames: &mut [f64],
-    at: usize,
-)
-    requires { Vectors n step count (length state.now) × (length radial_gradient.now ≡ n) × (at + (2 + 9 * count) ≤ length frames.old) }
-    ensures { Wrote at (output_of n step count state.now time radial_gradient.now) frames.old frames.new }
-{
-    let fields = at + 1;
-    let constraints = fields + 3 * count;
-    let energy = constraints + 5 * count;
-    frames[at] = time;
-    write_fields(state, radial_gradient, n, step, count, frames, fields);
-    write_constraints(state, n, step, count, frames, constraints);
-    write_energy(state, n, step, count, frames, energy);
-}
+impl<'a> Sampled<'a> {
+    // A state of these settings.
+    fn new(s: Settings, state: &'a [f64]) -> Sampled<'a>
+        requires sound { Accepted s }
+        requires whole { 8 * points_of s.level ≤ length state.now }
+        ensures state { result.state.now ≡ state.now }
+        ensures points { result.n ≡ points_of s.level }
+        ensures spaced { result.step ≡ 2 ^ (s.level - s.dx_level) }
+        ensures samples { result.count ≡ samples_of s.dx_level }
+    {
+        Sampled {
+            state,
+            n: length_at_discretization(s.level),
+            step: 1 << (s.level - s.dx_level),
+            count: sample_count(s.dx_level),
+        }
+    }
 
-// Writes the fields: the scalar field, its radial gradient and its conjugate momentum.
-fn write_fields(
-    state: &[f64],
-    radial_gradient: &[f64],
-    n: usize,
-    step: usize,
-    count: usize,
-    frames: &mut [f64],
-    at: usize,
-)
-    requires { Vectors n step count (length state.now) × (length radial_gradient.now ≡ n) × (at + 3 * count ≤ length frames.old) }
-    ensures { Wrote at (fields_of n step count state.now radial_gradient.now) frames.old frames.new }
-{
-    let second = at + count;
-    let third = second + count;
-    write_vector(state, n, FIELD, step, count, frames, at);
-    reduce_spatial_resolution(radial_gradient, step, count, frames, second);
-    write_vector(state, n, CONJ_MOMENTUM, step, count, frames, third);
-}
+    // Writes a frame whose radial gradient is at hand.
+    fn write_output(self, time: f64, radial_gradient: &[f64], frames: &mut [f64], at: usize)
+        requires { (length radial_gradient.now ≡ self.n) × (at + (2 + 9 * self.count) ≤ length frames.old) }
+        ensures { let s = self.entry in Wrote at (output_of s.n s.step s.count s.state.now time radial_gradient.now) frames.old frames.new }
+    {
+        frames[at] = time;
+        let constraints = self.write_fields(radial_gradient, frames, at + 1);
+        let energy = self.write_constraints(frames, constraints);
+        self.write_energy(frames, energy);
+    }
 
-// Writes the constraint variables: mass, radial factor, lapse, char speed, energy density.
-fn write_constraints(
-    state: &[f64],
-    n: usize,
-    step: usize,
-    count: usize,
-    frames: &mut [f64],
-    at: usize,
-)
-    requires { Vectors n step count (length state.now) × (at + 5 * count ≤ length frames.old) }
-    ensures { Wrote at (constraints_of n step count state.now) frames.old frames.new }
-{
-    let second = at + count;
-    let third = second + count;
-    let fourth = third + count;
-    let fifth = fourth + count;
-    write_vector(state, n, MASS, step, count, frames, at);
-    write_vector(state, n, RADIAL_FACTOR, step, count, frames, second);
-    write_vector(state, n, LAPSE, step, count, frames, third);
-    write_vector(state, n, CHAR_SPEED, step, count, frames, fourth);
-    write_vector(state, n, ENERGY_DENSITY, step, count, frames, fifth);
-}
+    // Writes the fields: the scalar field, its radial gradient and its conjugate momentum. Answers where they end.
+    fn write_fields(self, radial_gradient: &[f64], frames: &mut [f64], at: usize) -> usize
+        requires { (length radial_gradient.now ≡ self.n) × (at + 3 * self.count ≤ length frames.old) }
+        ensures { let s = self.entry in (result ≡ at + 3 * s.count) × Wrote at (fields_of s.n s.step s.count s.state.now radial_gradient.now) frames.old frames.new }
+    {
+        let gradient = self.write_vector(Vector::Field, frames, at);
+        let momentum = self.reduce_spatial_resolution(radial_gradient, frames, gradient);
+        self.write_vector(Vector::ConjMomentum, frames, momentum)
+    }
 
-// Writes the total energy and the alternate mass.
-fn write_energy(state: &[f64], n: usize, step: usize, count: usize, frames: &mut [f64], at: usize)
-    requires { Vectors n step count (length state.now) × (at + 1 + count ≤ length frames.old) }
-    ensures { Wrote at (energy_of n step count state.now) frames.old frames.new }
-{
-    let from = MASS * n;
-    let end = from + n;
-    let after = at + 1;
-    frames[at] = total_energy(&state[from..end]);
-    write_vector(state, n, ALTERNATE_MASS, step, count, frames, after);
-}
+    // Writes the constraint variables. Answers where they end.
+    fn write_constraints(self, frames: &mut [f64], at: usize) -> usize
+        requires { at + 5 * self.count ≤ length frames.old }
+        ensures { let s = self.entry in (result ≡ at + 5 * s.count) × Wrote at (constraints_of s.n s.step s.count s.state.now) frames.old frames.new }
+    {
+        let radial_factor = self.write_vector(Vector::Mass, frames, at);
+        let lapse = self.write_vector(Vector::RadialFactor, frames, radial_factor);
+        let char_speed = self.write_vector(Vector::Lapse, frames, lapse);
+        let energy_density = self.write_vector(Vector::CharSpeed, frames, char_speed);
+        self.write_vector(Vector::EnergyDensity, frames, energy_density)
+    }
 
-// Writes the samples of vector k of the state, whose vectors have n numbers each.
-fn write_vector(
-    state: &[f64],
-    n: usize,
-    k: usize,
-    step: usize,
-    count: usize,
-    frames: &mut [f64],
-    at: usize,
-)
-    requires { Sampling n step count × (k * n + n ≤ length state.now) × (at + count ≤ length frames.old) }
-    ensures { Wrote at (every_of step count (part (k * n) n state.now)) frames.old frames.new }
-{
-    let from = k * n;
-    let end = from + n;
-    reduce_spatial_resolution(&state[from..end], step, count, frames, at);
-}
+    // Writes the total energy and the alternate mass.
+    fn write_energy(self, frames: &mut [f64], at: usize)
+        requires { at + 1 + self.count ≤ length frames.old }
+        ensures { let s = self.entry in Wrote at (energy_of s.n s.step s.count s.state.now) frames.old frames.new }
+    {
+        frames[at] = total_energy(self.vector(Vector::Mass));
+        self.write_vector(Vector::AlternateMass, frames, at + 1);
+    }
 
-// Writes the samples of a vector: every step-th number from the first on, count of them.
-fn reduce_spatial_resolution(
-    vector: &[f64],
-    step: usize,
-    count: usize,
-    frames: &mut [f64],
-    at: usize,
-)
-    requires { Sampling (length vector.now) step count × (at + count ≤ length frames.old) }
-    ensures { Wrote at (every_of step count vector.now) frames.old frames.new }
-{
-    let mut j = 0;
-    while j < count {
-        frames[at + j] = vector[j * step];
-        j += 1;
+    // Writes the samples of a vector of the state. Answers where they end.
+    fn write_vector(self, vector: Vector, frames: &mut [f64], at: usize) -> usize
+        requires { at + self.count ≤ length frames.old }
+        ensures { let s = self.entry in (result ≡ at + s.count) × Wrote at (vector_samples s.n s.step s.count s.state.now (place_of vector)) frames.old frames.new }
+    {
+        self.reduce_spatial_resolution(self.vector(vector), frames, at)
+    }
+
+    fn vector(self, vector: Vector) -> &'a [f64]
+        ensures { let s = self.entry in (result.now ≡ part (place_of vector * s.n) s.n s.state.now) × (length result.now ≡ s.n) }
+    {
+        let from = vector as usize * self.n;
+        &self.state[from..from + self.n]
+    }
+
+    // Writes the samples of a vector. Answers where they end.
+    fn reduce_spatial_resolution(self, vector: &[f64], frames: &mut [f64], at: usize) -> usize
+        requires { (length vector.now ≡ self.n) × (at + self.count ≤ length frames.old) }
+        ensures { let s = self.entry in (result ≡ at + s.count) × Wrote at (every_of s.step s.count vector.now) frames.old frames.new }
+    {
+        let end = at + self.count;
+        for (j, sample) in frames[at..end].iter_mut().enumerate() {
+            *sample = vector[j * self.step];
+        }
+        end
     }
 }

@@ -1,68 +1,169 @@
 // The calls of a run by a list of budgets, as in oracle/run/lists.rs.
-use crate::jobs::{Call, Job, ONES, REFUSALS, call_with};
-use crate::memories::Lent;
+use crate::lines::{Mass, name};
+use crate::memories::{FRAMES, Lent, Memories, exact, frame_size, state_size};
 use crate::session::Session;
-use crate::settings::{draw, low};
+use crate::settings::{CASES, Case, case_of, draw};
 use cases::arguments::after;
+use cases::digest::{mixed, with};
+use run::settings::Settings;
+use std::io;
+use vectors::bits::bits_of;
 
-// Calls that are refused unless the run has ended: the budget, and what state and work memory have too little.
-#[rattlefmt::skip]
-const REFUSED: [u64; 12] = [
-    0, 0, 0,
-    1, 1, 0,
-    1, 0, 1,
-    2147483648, 0, 0,
+// The lists by their numbers: all attempts at once; one at a time; cut at random; so cut, with calls that are refused between
+// them; all at once, with room for a frame; cut, with more memory than is needed.
+#[derive(Clone, Copy)]
+enum List {
+    Whole,
+    Ones,
+    Cuts,
+    Refusals,
+    Short,
+    Long,
+}
+
+const LISTS: [List; 6] = [
+    List::Whole,
+    List::Ones,
+    List::Cuts,
+    List::Refusals,
+    List::Short,
+    List::Long,
 ];
 
-// After full a call with the rest of the budget; else a call to be refused, or the next budget of the list.
-pub fn cut_call(job: Job, z: Session) -> Call {
-    if 0 < z.rest {
-        return call_with(z, z.rest, job.lent);
+// How many budgets a list of cuts has.
+const CUTS: u32 = 8;
+
+pub fn all(rt: &impl Print, memories: &mut Memories) -> io::Result<()> {
+    for k in 0..CASES {
+        lists(rt, k, memories)?;
     }
-    let which = refusal_of(job.kind, z.turn);
-    if 0 < which {
-        return refused_call(z, which, job.lent);
-    }
-    let budget = cut(job, z);
-    let mut c = call_with(z, budget, job.lent);
-    c.left = z.left.wrapping_sub(budget);
-    c.seed = after(z.seed);
-    c
+    Ok(())
 }
 
-// Three calls of four are refused in the list of refusals.
-fn refusal_of(kind: u32, turn: u32) -> usize {
-    if kind == REFUSALS {
-        return (turn % 4) as usize;
+fn lists(rt: &impl Print, k: usize, memories: &mut Memories) -> io::Result<()> {
+    for list in LISTS {
+        line(rt, k, list, memories)?;
     }
-    0
+    Ok(())
 }
 
-fn refused_call(z: Session, which: usize, l: Lent) -> Call {
-    let shorter = Lent {
-        state: l.state.wrapping_sub(refused(which, 1)),
-        work: l.work.wrapping_sub(refused(which, 2)),
-        frames: l.frames,
-    };
-    call_with(z, low(refused(which, 0)), shorter)
+// The calls; outcome, steps, time and mass; the digest of the state; the frames and their digest.
+fn line(rt: &impl Print, k: usize, list: List, memories: &mut Memories) -> io::Result<()> {
+    let session = carry_out(k, list, memories);
+    let record = session.record;
+    print!(rt; "case {k} list {} ", list as u32)?;
+    print!(rt;
+        "calls {} full {} refused {} ",
+        session.calls, session.full, session.refused
+    )?;
+    print!(rt;
+        "{} {} {:016x} {} ",
+        name(session.answer),
+        record.steps,
+        bits_of(record.time),
+        Mass(session.answer)
+    )?;
+    println!(rt;
+        "state {} frames {} {}",
+        state_digest(session, memories),
+        session.frames,
+        session.digest
+    )
 }
 
-fn refused(which: usize, column: usize) -> u64 {
-    let table = REFUSED;
-    table[which % 4 * 3 + column % 3]
+// The digest of the time and of the state's numbers.
+fn state_digest(session: Session, memories: &Memories) -> u64 {
+    let record = session.record;
+    let size = state_size(record.settings.level);
+    memories.state[..size]
+        .iter()
+        .fold(with(1, record.time), |d, x| with(d, *x))
 }
 
-// One; or a random part of what is left, which may be 0, and at last all of it.
-fn cut(job: Job, z: Session) -> u32 {
-    if job.kind == ONES {
-        return 1;
+fn carry_out(k: usize, list: List, memories: &mut Memories) -> Session {
+    let case = case_of(k);
+    let lent = lent(case.settings, list);
+    let mut session = Session::begin(case.settings, lent, memories);
+    match list {
+        List::Whole | List::Short => session.spend(case.attempts, lent, memories),
+        List::Ones => ones(&mut session, case.attempts, lent, memories),
+        List::Cuts | List::Refusals | List::Long => cuts(&mut session, k, list, memories),
     }
-    if z.turn.wrapping_add(1) == job.turns {
-        return z.left;
+    session
+}
+
+fn ones(session: &mut Session, attempts: u32, lent: Lent, memories: &mut Memories) {
+    for _ in 0..attempts {
+        session.spend(1, lent, memories);
     }
-    let drawn = draw(z.seed) % (job.attempts / 3 + 2);
-    if drawn < z.left {
-        return drawn;
+}
+
+// Random budgets, some of them 0, and at last what is left.
+fn cuts(session: &mut Session, k: usize, list: List, memories: &mut Memories) {
+    let Case { settings, attempts } = case_of(k);
+    let lent = lent(settings, list);
+    let mut left = attempts;
+    let mut s = mixed(mixed(31, k as u64), list as u64);
+    for turn in 1..=CUTS {
+        if matches!(list, List::Refusals) {
+            refusals(session, lent, memories);
+        }
+        let drawn = draw(s) % (attempts / 3 + 2);
+        let budget = if turn == CUTS { left } else { left.min(drawn) };
+        session.spend(budget, lent, memories);
+        left = left.wrapping_sub(budget);
+        s = after(s);
     }
-    z.left
+}
+
+// Calls that are refused unless the run has ended: state or work memory one short, a budget too large.
+fn refusals(session: &mut Session, lent: Lent, memories: &mut Memories) {
+    session.advance(
+        1,
+        Lent {
+            state: lent.state.wrapping_sub(1),
+            ..lent
+        },
+        memories,
+    );
+    session.advance(
+        1,
+        Lent {
+            work: lent.work.wrapping_sub(1),
+            ..lent
+        },
+        memories,
+    );
+    session.advance(2147483648, lent, memories);
+}
+
+// Exact, or with some numbers more. A skipped run needs no frame memory.
+fn lent(settings: Settings, list: List) -> Lent {
+    let exact = exact(settings);
+    let size = frame_size(settings);
+    match list {
+        List::Whole => exact,
+        List::Ones | List::Short if settings.skip => Lent { frames: 0, ..exact },
+        List::Ones => Lent {
+            frames: size,
+            ..exact
+        },
+        List::Cuts => Lent {
+            frames: 3 * size + 7,
+            ..exact
+        },
+        List::Refusals => Lent {
+            frames: 2 * size,
+            ..exact
+        },
+        List::Short => Lent {
+            frames: (2 * size).wrapping_sub(1),
+            ..exact
+        },
+        List::Long => Lent {
+            state: exact.state.wrapping_add(3),
+            work: exact.work.wrapping_add(3),
+            frames: size + 1,
+        },
+    }
 }

@@ -3,23 +3,33 @@
 
 mod begin;
 mod calls;
-mod floats;
 mod forged;
-mod jobs;
 mod lines;
 mod lists;
 mod memories;
 mod session;
 mod settings;
+mod whole;
 
+use memories::{FRAMES, Memories, STATE, WORK};
 use std::io;
 
 fn main(rt: HostRuntime) -> io::Result<()> {
-    let mut state = [0.0; 2064];
-    let mut work = [0.0; 10288];
-    let mut frames = [0.0; 8192];
-    for i in 0..jobs::JOBS {
-        session::carry_out(&rt, jobs::job_of(i), &mut state, &mut work, &mut frames)?;
-    }
-    Ok(())
+    let mut memories = Memories {
+        state: [0.0; STATE],
+        work: [0.0; WORK],
+        frames: [0.0; FRAMES],
+    };
+    lists::all(&rt, &mut memories)?;
+    whole::all(&rt, &mut memories)?;
+    calls::all(&rt, &mut memories)?;
+    begin::levels(&rt, &mut memories)?;
+    begin::least_intervals(&rt, &mut memories)?;
+    begin::intervals(&rt, &mut memories)?;
+    begin::dx_levels(&rt, &mut memories)?;
+    begin::lengths(&rt, &mut memories)?;
+    begin::amplitudes(&rt, &mut memories)?;
+    begin::orders(&rt, &mut memories)?;
+    forged::states(&rt, &mut memories)?;
+    forged::records(&rt, &mut memories)
 }

@@ -1,74 +1,170 @@
-// The three memories: how long they are for a level, and how much of each a call is lent.
+// The three memories: how long they are for a level, how much of each a call is lent, and what stands in them.
 ghost use Rattle.std.specs.Prelude.{◌≤◌};
 
-use cases::arguments::list;
-use run::settings::Settings;
+use cases::arguments::{Range, list};
+use cases::digest::digest;
+use run::refusal::Refusal;
+use run::settings::{Record, Settings};
+use run::simulate::{Advanced, Begun};
+use run::{simulate, state_output_builder};
+use std::fmt;
+use vectors::grid::length_at_discretization;
 
-// The numbers of a state of levels 5 to 8, then the numbers of work memory that a call may use.
-const SIZES: [u64; 8] = [264, 520, 1032, 2056, 1320, 2600, 5160, 10280];
+pub const STATE: usize = 2064;
 
-// The numbers of 0, 1, 2 and 3 frames of the dx levels 0 to 8.
-#[rattlefmt::skip]
-const FRAMES: [u64; 36] = [
-    0, 0, 0, 0, 0, 0, 0, 0, 0,
-    20, 29, 47, 83, 155, 299, 587, 1163, 2315,
-    40, 58, 94, 166, 310, 598, 1174, 2326, 4630,
-    60, 87, 141, 249, 465, 897, 1761, 3489, 6945,
-];
+pub const WORK: usize = 10288;
+
+pub const FRAMES: usize = 8192;
+
+#[derive(Drop)]
+pub struct Memories {
+    pub state: [f64; STATE],
+    pub work: [f64; WORK],
+    pub frames: [f64; FRAMES],
+}
 
 // How many numbers of each memory a call gets, from the first on.
 #[derive(Clone, Copy)]
 pub struct Lent {
-    pub state: u64,
-    pub work: u64,
-    pub frames: u64,
+    pub state: usize,
+    pub work: usize,
+    pub frames: usize,
 }
 
-pub fn state_size(level: u32) -> u64 {
-    let table = SIZES;
-    table[((level % 4 + 3) % 4) as usize]
-}
+pub const ALL: Lent = Lent {
+    state: STATE,
+    work: WORK,
+    frames: FRAMES,
+};
 
-pub fn work_size(level: u32) -> u64 {
-    let table = SIZES;
-    table[4 + ((level % 4 + 3) % 4) as usize]
-}
-
-pub fn frames_of(count: u64, dx_level: u32) -> u64 {
-    let table = FRAMES;
-    table[(count % 4) as usize * 9 + (dx_level % 9) as usize]
-}
-
-// What a run of these settings needs and one number fewer, with so many more; for frame memory of so many frames.
-pub fn lent_to(s: Settings, state: u64, work: u64, count: u64, frames: u64) -> Lent {
-    Lent {
-        state: moved(state_size(s.level), state),
-        work: moved(work_size(s.level), work),
-        frames: moved(frames_of(count, s.dx_level), frames),
+impl fmt::Display for Lent {
+    fn fmt<W: fmt::Write>(&self, f: &mut fmt::Formatter<W>) -> fmt::Result {
+        write!(f, "lent {} {} {}", self.state, self.work, self.frames)
     }
 }
 
-fn moved(size: u64, more: u64) -> u64 {
-    size.wrapping_add(more).wrapping_sub(1)
+// Digests of state memory, of frame memory and of what stays in work memory.
+#[derive(Clone, Copy)]
+pub struct Left {
+    state: u64,
+    frames: u64,
+    work: u64,
 }
 
-pub fn least(x: u64, most: usize) -> usize
-    ensures { result ≤ most }
+impl fmt::Display for Left {
+    fn fmt<W: fmt::Write>(&self, f: &mut fmt::Formatter<W>) -> fmt::Result {
+        write!(f, "memories {} {} {}", self.state, self.frames, self.work)
+    }
+}
+
+// The points of a level, up to level 8, the highest that is run.
+fn points(level: u32) -> usize
+    ensures { result ≤ 257 }
 {
-    if x < most as u64 {
-        return x as usize;
-    }
-    most
+    length_at_discretization(level).min(257)
 }
 
-// The first n numbers by the generator from seed on.
-pub fn refill(n: u64, seed: u64, values: &mut [f64]) {
-    let end = least(n, values.len());
-    list(5, seed, &mut values[0..end]);
+pub fn state_size(level: u32) -> usize
+    ensures { result ≤ 2056 }
+{
+    8 * points(level)
 }
 
-pub fn put(at: usize, x: f64, values: &mut [f64]) {
-    if at < values.len() {
-        values[at] = x;
+pub fn work_size(level: u32) -> usize
+    ensures { result ≤ 10280 }
+{
+    40 * points(level)
+}
+
+// The numbers of a frame, up to dx level 8.
+pub fn frame_size(settings: Settings) -> usize
+    ensures { result ≤ 2315 }
+{
+    state_output_builder::frame_size(settings).min(2315)
+}
+
+// What a run needs, and all of frame memory.
+pub fn exact(settings: Settings) -> Lent {
+    Lent {
+        state: state_size(settings.level),
+        work: work_size(settings.level),
+        frames: FRAMES,
     }
+}
+
+impl Memories {
+    pub fn fill(&mut self) {
+        list(Range::Unit as u32, 7, &mut self.state);
+        list(Range::Unit as u32, 8, &mut self.frames);
+        self.fill_work();
+    }
+
+    pub fn fill_work(&mut self) {
+        list(Range::Unit as u32, 9, &mut self.work);
+    }
+
+    pub fn put(&mut self, at: usize, x: f64) {
+        if at < STATE {
+            self.state[at] = x;
+        }
+    }
+
+    pub fn begin(&mut self, settings: Settings, lent: Lent) -> Result<Begun, Refusal> {
+        let Memories {
+            state,
+            work,
+            frames,
+        } = self;
+        begin(settings, lent, state, work, frames)
+    }
+
+    pub fn advance(&mut self, record: Record, lent: Lent, budget: u32) -> Advanced {
+        let Memories {
+            state,
+            work,
+            frames,
+        } = self;
+        advance(record, lent, budget, state, work, frames)
+    }
+
+    // The call used so many numbers of work memory.
+    pub fn left(&self, used: usize) -> Left {
+        Left {
+            state: digest(&self.state),
+            frames: digest(&self.frames),
+            work: digest(&self.work[used.min(WORK)..]),
+        }
+    }
+}
+
+fn begin(
+    settings: Settings,
+    lent: Lent,
+    state: &mut [f64; STATE],
+    work: &mut [f64; WORK],
+    frames: &mut [f64; FRAMES],
+) -> Result<Begun, Refusal> {
+    simulate::begin(
+        settings,
+        &mut state[..lent.state.min(STATE)],
+        &mut work[..lent.work.min(WORK)],
+        &mut frames[..lent.frames.min(FRAMES)],
+    )
+}
+
+fn advance(
+    record: Record,
+    lent: Lent,
+    budget: u32,
+    state: &mut [f64; STATE],
+    work: &mut [f64; WORK],
+    frames: &mut [f64; FRAMES],
+) -> Advanced {
+    simulate::advance(
+        record,
+        &mut state[..lent.state.min(STATE)],
+        &mut work[..lent.work.min(WORK)],
+        &mut frames[..lent.frames.min(FRAMES)],
+        budget,
+    )
 }

@@ -6,8 +6,8 @@ use native.Mathlib.Omega.{arith}
 use lib.ListN.{length, take}
 use lib.Seq.{length-take-le}
 use Rattle.order_forms.specs.Spelling.{AfterSpelling, after_spelling, spelling}
-use Rattle.order_forms.specs.declared.spelling.Spelled.{Spelled}
-use Rattle.order_forms.specs.declared.spelling.Spelled.TheVariants.{To}
+use Rattle.std.proofs.Common.{Result, Ok}
+use Rattle.order_forms.specs.declared.spelling.SpellError.{SpellError}
 use Rattle.program_io.specs.Output as output
 use Rattle.program_io.specs.declared.Written.{Written}
 use Rattle.spell.specs.declared.Answer.{Answer}
@@ -17,25 +17,25 @@ use Rattle.spell.specs.Answers.{Answers}
 use Rattle.spell.specs.ReplyLaws.{reply_in, long_refused, spelling_replies, spelling_ends}
 
 module _
-    (order lent : List ℕ) (few : length order ≤ 4096) (room : 4096 ≤ length lent) (r : Spelled) (out : List ℕ)
+    (order lent : List ℕ) (few : length order ≤ 4096) (room : 4096 ≤ length lent) (r : Result ℕ SpellError) (out : List ℕ)
     (after : after_spelling r out ≡ spelling order lent)
   where
-    same : (told : Spelled) → r ≡ told → spelling order lent ≡ after_spelling told out
-    same told is = sym after ∙ ap (λ (s : Spelled). after_spelling s out) is
+    same : (told : Result ℕ SpellError) → r ≡ told → spelling order lent ≡ after_spelling told out
+    same told is = sym after ∙ ap (λ (s : Result ℕ SpellError). after_spelling s out) is
 
-    reply_is : (told : Spelled) → r ≡ told → reply_of order ≡ reply_in (after_spelling told out)
+    reply_is : (told : Result ℕ SpellError) → r ≡ told → reply_of order ≡ reply_in (after_spelling told out)
     reply_is told is = sym (spelling_replies order lent few room) ∙ ap reply_in (same told is)
 
-    pub answers : (told : Spelled) → r ≡ told → (a : Answer) → Answers (reply_in (after_spelling told out)) a → Answers (reply_of order) a
+    pub answers : (told : Result ℕ SpellError) → r ≡ told → (a : Answer) → Answers (reply_in (after_spelling told out)) a → Answers (reply_of order) a
     answers told is a = subst (λ (y : Reply). Answers y a) (sym (reply_is told is))
 
-    module _ (end : ℕ) (is : r ≡ To end) where
+    module _ (end : ℕ) (is : r ≡ Ok end) where
       pub ends_in : end ≤ 4096
-      ends_in = omega (arith, spelling_ends order lent few room end (ap (λ (x : AfterSpelling). x.answer) (same (To end) is)))
+      ends_in = omega (arith, spelling_ends order lent few room end (ap (λ (x : AfterSpelling). x.answer) (same (Ok end) is)))
 
       -- the part of the lent bytes that ends there
       pub reply_bytes : reply_of order ≡ spelled (take (end - 0) out)
-      reply_bytes = let all : end ≡ end - 0 = omega arith in reply_is (To end) is ∙ ap (λ (n : ℕ). spelled (take n out)) all
+      reply_bytes = let all : end ≡ end - 0 = omega arith in reply_is (Ok end) is ∙ ap (λ (n : ℕ). spelled (take n out)) all
 
       pub answers_sent : (w : Written) → output.Sent (length (take (end - 0) out)) w → Answers (reply_of order) (Sent w)
       answers_sent w = subst (λ (y : Reply). Answers y (Sent w)) (sym reply_bytes)

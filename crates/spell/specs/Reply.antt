@@ -1,8 +1,7 @@
 -- What the program replies to an input: 02, "One spelling for each order", for an order of at most 4,096 bytes. Definitions only.
 use Rattle.std.specs.Prelude.{ℕ, cond, List, ltb, length}
 use Rattle.run.specs.Order.{read_order}
-use Rattle.run.specs.declared.order.Read.{Read}
-use Rattle.run.specs.declared.order.Read.TheVariants.{Refused, Order}
+use Rattle.run.specs.Order.{Read, Refused, Order}
 use Rattle.order_forms.specs.Spelling.{spelled_of}
 
 -- a refusal's number, its number and the position, or the bytes to write

@@ -9,8 +9,7 @@ use Rattle.run.specs.Order.{read_order}
 use Rattle.run.specs.OrderLines.{lines_of}
 use Rattle.run.specs.declared.settings.Settings.{Settings}
 use Rattle.run.specs.declared.order.Places.{Places}
-use Rattle.run.specs.declared.order.Read.{Read}
-use Rattle.run.specs.declared.order.Read.TheVariants.{Refused, Order}
+use Rattle.run.specs.Order.{Read, Refused, Order}
 use Rattle.order_forms.specs.Spelling.{spelled_of}
 use Rattle.order_forms.specs.SpellingLaws.{spelled_length}
 use Rattle.order_forms.specs.SpelledRead.{spelled_read}

@@ -5,8 +5,7 @@ use Rattle.std.proofs.Common.{◌∙◌, lt-ltb, le-ltb}
 use native.Mathlib.Omega.{arith}
 use Rattle.std.proofs.Math.ListN.{length}
 use Rattle.run.specs.Order.{read_order}
-use Rattle.run.specs.declared.order.Read.{Read}
-use Rattle.run.specs.declared.order.Read.TheVariants.{Refused, Order}
+use Rattle.run.specs.Order.{Read, Refused, Order}
 use Rattle.order_forms.specs.Spelling as writer
 use Rattle.order_forms.specs.Spelling.{AfterSpelling, spelling}
 use Rattle.order_forms.specs.SpellingAnswers.{spelling_refused, spelling_written, written_front}

@@ -2,8 +2,7 @@
 use Rattle.std.specs.Prelude.{ℕ, ◌≤◌, Bool, true, false, cond, List, ◌≡◌, refl, ltb, length}
 use Rattle.std.proofs.Common.{arith}
 use Rattle.run.specs.Order.{read_order}
-use Rattle.run.specs.declared.order.Read.{Read}
-use Rattle.run.specs.declared.order.Read.TheVariants.{Refused, Order}
+use Rattle.run.specs.Order.{Read, Refused, Order}
 use Rattle.claims.proofs.FaultExactly.{refused_number}
 use Rattle.spell.specs.Reply.{refused, refused_at, reply_read, reply_of}
 

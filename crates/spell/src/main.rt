@@ -8,7 +8,7 @@ ghost use Rattle.program_io.specs.Output.{Sent};
 ghost use Rattle.spell.specs.Reply.{spelled, reply_of};
 ghost use Rattle.spell.specs.Answers.{Answers};
 
-use order_forms::spelling::{Spelled, spell};
+use order_forms::spelling::{SpellError, spell};
 use program_io::{Input, Noted, Written, is_all, read_input, tell_failure, write};
 use std::io;
 use std::io::Write;
@@ -62,11 +62,12 @@ fn write_spelling(output: &mut impl Write, order: &[u8]) -> Answer
     ensures { Answers (reply_of order.now) result }
 {
     let mut out = [0u8; 4096];
-    let spelled = spell(order, &mut out);
-    match spelled {
-        Spelled::Refused(number, position) => Answer::RefusedAt(number, position),
-        Spelled::NoRoom => Answer::Refused(17),
-        Spelled::To(end) => Answer::Sent(send(output, order, &out[0..end])),
+    match spell(order, &mut out) {
+        Ok(end) => Answer::Sent(send(output, order, &out[0..end])),
+        Err(SpellError::Faulty(misread)) => {
+            Answer::RefusedAt(u8::from(misread.fault), misread.position)
+        }
+        Err(SpellError::NoRoom) => Answer::Refused(17),
     }
 }
 

@@ -3,7 +3,7 @@
 use Rattle.std.specs.Prelude.{◌≡◌, ℕ, ◌+◌, ◌/◌, Bool, true, false, cond, not, ◌&&◌, ◌≢◌, nat_lt, refl, Float}
 use Rattle.std.proofs.Math.Bool.{and-false}
 use Rattle.std.proofs.Common.{true≢false, sym, ◌∙◌, zero-add, arith}
-use Rattle.std.proofs.Math.Option.{Option, none, some}
+use Rattle.std.specs.Prelude.{Option, None, Some}
 use Rattle.std.proofs.Math.Path.{ap}
 use Rattle.run.specs.declared.settings.Settings.{Settings}
 use Rattle.run.specs.Calls.{lent_refusal, begin_refusal}
@@ -26,8 +26,8 @@ unfolding start outcome
 start_no_timeout s e = go (mass_at (first_state s)) e
   where
     go : (o : Option Float) → option o collapse spent ≢ timeout
-    go none q = let z : ◌≡◌ {A = ℕ} 0 1 = cc in absurd (omega arith)
-    go (some m) q = let z : ◌≡◌ {A = ℕ} 0 1 = cc in absurd (omega arith)
+    go None q = let z : ◌≡◌ {A = ℕ} 0 1 = cc in absurd (omega arith)
+    go (Some m) q = let z : ◌≡◌ {A = ℕ} 0 1 = cc in absurd (omega arith)
 
 -- so a run that times out has no budget of 2^31 or more
 few_attempts : (s : Settings) (budget : ℕ) → too_many (has_ended s (start s)) 0 budget ≡ false → outcome_of s (plain_run s budget) ≡ timeout → nat_lt 2147483647 (0 + budget) ≡ false
@@ -42,23 +42,23 @@ few_attempts s budget few late = go (has_ended s (start s)) refl few
 
 -- the refusal of a run that passes what begin refuses first, and is not refused with 14
 only_13 :
-    (o : Option ℕ) (b c : Bool) (x : Outcome) (k n : ℕ) (time : Float) → o ≡ none → c ≡ false →
-    side_of (option (option o some (cond b (some 13) none)) not_begun (cond c (not_run 14) (ran_to x k time))) ≡ refused_run n → n ≡ 13
-only_13 (some m) b c x k n time e f q = absurd (some_not_none m e)
-only_13 none b true x k n time e f q = absurd (true≢false f)
-only_13 none true false x k n time e f q = cc
-only_13 none false false (collapse m) k n time e f q = let z : ◌≡◌ {A = ℕ} 0 1 = cc in absurd (omega arith)
-only_13 none false false broke k n time e f q = let z : ◌≡◌ {A = ℕ} 0 1 = cc in absurd (omega arith)
-only_13 none false false timeout k n time e f q = let z : ◌≡◌ {A = ℕ} 0 1 = cc in absurd (omega arith)
-only_13 none false false spent k n time e f q = let z : ◌≡◌ {A = ℕ} 0 1 = cc in absurd (omega arith)
+    (o : Option ℕ) (b c : Bool) (x : Outcome) (k n : ℕ) (time : Float) → o ≡ None → c ≡ false →
+    side_of (option (option o Some (cond b (Some 13) None)) not_begun (cond c (not_run 14) (ran_to x k time))) ≡ refused_run n → n ≡ 13
+only_13 (Some m) b c x k n time e f q = absurd (some_not_none m e)
+only_13 None b true x k n time e f q = absurd (true≢false f)
+only_13 None true false x k n time e f q = cc
+only_13 None false false (collapse m) k n time e f q = let z : ◌≡◌ {A = ℕ} 0 1 = cc in absurd (omega arith)
+only_13 None false false broke k n time e f q = let z : ◌≡◌ {A = ℕ} 0 1 = cc in absurd (omega arith)
+only_13 None false false timeout k n time e f q = let z : ◌≡◌ {A = ℕ} 0 1 = cc in absurd (omega arith)
+only_13 None false false spent k n time e f q = let z : ◌≡◌ {A = ℕ} 0 1 = cc in absurd (omega arith)
 
-lent_none : (s : Settings) (state work : ℕ) → begin_refusal s state work 0 ≡ none → lent_refusal s state work 0 ≡ none
+lent_none : (s : Settings) (state work : ℕ) → begin_refusal s state work 0 ≡ None → lent_refusal s state work 0 ≡ None
 unfolding begin_refusal
-lent_none s state work e = go (lent_refusal s state work 0) (cond (holds_nan (first_state s)) (some 13) none) e
+lent_none s state work e = go (lent_refusal s state work 0) (cond (holds_nan (first_state s)) (Some 13) None) e
   where
-    go : (o p : Option ℕ) → ◌≡◌ {A = Option ℕ} (option o some p) none → o ≡ none
-    go none p q = refl
-    go (some n) p q = absurd (some_not_none n q)
+    go : (o p : Option ℕ) → ◌≡◌ {A = Option ℕ} (option o Some p) None → o ≡ None
+    go None p q = refl
+    go (Some n) p q = absurd (some_not_none n q)
 
 module _ (unit : Float) (s : Settings) (budget state work low high halvings : ℕ) (b : Bracket) (e : search_of unit s budget state work low high halvings ≡ found b) where
   pub middle_refused : (n : ℕ) → b.why ≡ undecided (refused_run n) → n ≡ 13
@@ -68,7 +68,7 @@ module _ (unit : Float) (s : Settings) (budget state work low high halvings : �
       let w = run_timeout unit s budget state work b.low k.low_run in
       let m = (b.low + b.high) / 2 in
       let t = at unit s budget state work m in
-      let lent : lent_refusal t state work 0 ≡ none =
+      let lent : lent_refusal t state work 0 ≡ None =
       lent_same s (amplitude_at unit m) (amplitude_at unit b.low) state work 0 ∙ lent_none (at unit s budget state work b.low) state work w.0 in
       let few : too_many (has_ended t (start t)) 0 budget ≡ false =
       ap (λ (x : Bool). not (has_ended t (start t)) && x) (few_attempts (at unit s budget state work b.low) budget w.1.0 w.1.1)

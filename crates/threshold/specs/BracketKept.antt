@@ -1,7 +1,7 @@
 -- 02, request 1: what every accepted search keeps (`bracket_kept` in proofs). Nothing here assumes that collapse is monotone in the amplitude.
 use Rattle.std.specs.Prelude.{◌≡◌, ℕ, ◌+◌, ◌-◌, ◌*◌, ◌^◌, ◌<◌, ◌≤◌, Bool, true, false, cond, ◌&&◌, ◌↔◌, ◌≢◌, nat_le, nat_lt, Float}
 use Rattle.std.proofs.lemmas.Bool.{false≢true}
-use Rattle.std.proofs.Math.Option.{Option, none, some}
+use Rattle.std.specs.Prelude.{Option, None, Some}
 use Rattle.std.proofs.Math.Path.{refl, sym}
 use Rattle.std.proofs.Common.{arith}
 use borrow.Author.Tests.{ltb-true, leb-true}
@@ -20,10 +20,10 @@ module _ (k : ℕ) (time : Float) where
   -- it is not refused
   not_refused :
       (o : Option ℕ) (b : Bool) (x : Outcome) (r : Side) → ((n : ℕ) → refused_run n ≢ r) →
-      side_of (option o not_begun (cond b (not_run 14) (ran_to x k time))) ≡ r → (o ≡ none) × ((b ≡ false) × (side_of (ran_to x k time) ≡ r))
-  not_refused (some n) b x r p e = absurd (p n e)
-  not_refused none true x r p e = absurd (p 14 e)
-  not_refused none false x r p e = (refl, (refl, e))
+      side_of (option o not_begun (cond b (not_run 14) (ran_to x k time))) ≡ r → (o ≡ None) × ((b ≡ false) × (side_of (ran_to x k time) ≡ r))
+  not_refused (Some n) b x r p e = absurd (p n e)
+  not_refused None true x r p e = absurd (p 14 e)
+  not_refused None false x r p e = (refl, (refl, e))
 
   is_timeout_lem : (x : Outcome) → side_of (ran_to x k time) ≡ times_out → x ≡ timeout
   is_timeout_lem (collapse m) e = let z : ◌≡◌ {A = ℕ} 0 1 = cc in absurd (omega arith)
@@ -38,16 +38,16 @@ module _ (k : ℕ) (time : Float) where
   is_collapse_lem spent e = let z : ◌≡◌ {A = ℕ} 0 1 = cc in absurd (omega arith)
 
 -- the runs of the ends
-ends_run : (o p : Option ℕ) (x y : Side) → ◌≡◌ {A = Option ℕ} (option o some (option p some (cond (is_timeout x && is_collapse y) none (some 16)))) none → (x ≡ times_out) × (y ≡ collapses)
-ends_run (some n) p x y e = absurd (some_not_none n e)
-ends_run none (some n) x y e = absurd (some_not_none n e)
-ends_run none none times_out times_out e = absurd (some_not_none 16 e)
-ends_run none none times_out collapses e = (refl, refl)
-ends_run none none times_out neither e = absurd (some_not_none 16 e)
-ends_run none none times_out (refused_run n) e = absurd (some_not_none 16 e)
-ends_run none none collapses y e = absurd (some_not_none 16 e)
-ends_run none none neither y e = absurd (some_not_none 16 e)
-ends_run none none (refused_run n) y e = absurd (some_not_none 16 e)
+ends_run : (o p : Option ℕ) (x y : Side) → ◌≡◌ {A = Option ℕ} (option o Some (option p Some (cond (is_timeout x && is_collapse y) None (Some 16)))) None → (x ≡ times_out) × (y ≡ collapses)
+ends_run (Some n) p x y e = absurd (some_not_none n e)
+ends_run None (Some n) x y e = absurd (some_not_none n e)
+ends_run None None times_out times_out e = absurd (some_not_none 16 e)
+ends_run None None times_out collapses e = (refl, refl)
+ends_run None None times_out neither e = absurd (some_not_none 16 e)
+ends_run None None times_out (refused_run n) e = absurd (some_not_none 16 e)
+ends_run None None collapses y e = absurd (some_not_none 16 e)
+ends_run None None neither y e = absurd (some_not_none 16 e)
+ends_run None None (refused_run n) y e = absurd (some_not_none 16 e)
 
 -- ends and halvings that are not refused with 15
 abbrev pub Asked : (low high halvings : ℕ) → Type 0
@@ -75,7 +75,7 @@ module _ (unit : Float) (s : Settings) (budget state work : ℕ) where
 
   pub run_not_refused :
       (u : ℕ) (r : Side) → ((n : ℕ) → refused_run n ≢ r) → run u ≡ r →
-      (begin_refusal (at u) state work 0 ≡ none)
+      (begin_refusal (at u) state work 0 ≡ None)
       × ((too_many (has_ended (at u) (start (at u))) 0 budget ≡ false)
       × (side_of (ran_to (outcome_at u) (plain_run (at u) budget).steps (plain_run (at u) budget).state.time) ≡ r))
   unfolding side_at ran_at
@@ -84,7 +84,7 @@ module _ (unit : Float) (s : Settings) (budget state work : ℕ) where
       (too_many (has_ended (at u) (start (at u))) 0 budget) (outcome_at u) r p e
 
   pub run_timeout : (u : ℕ) → run u ≡ times_out →
-      (begin_refusal (at u) state work 0 ≡ none) × ((too_many (has_ended (at u) (start (at u))) 0 budget ≡ false) × (outcome_at u ≡ timeout))
+      (begin_refusal (at u) state work 0 ≡ None) × ((too_many (has_ended (at u) (start (at u))) 0 budget ≡ false) × (outcome_at u ≡ timeout))
   run_timeout u e =
       let w = run_not_refused u times_out (λ n q. let z : ◌≡◌ {A = ℕ} 0 1 = cc in absurd (omega arith)) e in
       (w.0, (w.1.0, is_timeout_lem (plain_run (at u) budget).steps (plain_run (at u) budget).state.time (outcome_at u) w.1.1))
@@ -124,14 +124,14 @@ module _ (unit : Float) (s : Settings) (budget state work : ℕ) where
       where
         go :
             (x : Bool) → (x ≡ true → Asked low high halvings) → (o p : Option ℕ) (z : Bool) →
-            (◌≡◌ {A = Option ℕ} (option o some (option p some (cond z none (some 16)))) none → (run low ≡ times_out) × (run high ≡ collapses)) →
-            cond x (option (option o some (option p some (cond z none (some 16)))) refused_search (found (halve run halvings 0 low high))) (refused_search 15) ≡ found b →
+            (◌≡◌ {A = Option ℕ} (option o Some (option p Some (cond z None (Some 16)))) None → (run low ≡ times_out) × (run high ≡ collapses)) →
+            cond x (option (option o Some (option p Some (cond z None (Some 16)))) refused_search (found (halve run halvings 0 low high))) (refused_search 15) ≡ found b →
             Accepted
         go false f o p z g q = let w : ◌≡◌ {A = ℕ} 0 1 = cc in absurd (omega arith)
-        go true f (some n) p z g q = let w : ◌≡◌ {A = ℕ} 0 1 = cc in absurd (omega arith)
-        go true f none (some n) z g q = let w : ◌≡◌ {A = ℕ} 0 1 = cc in absurd (omega arith)
-        go true f none none false g q = let w : ◌≡◌ {A = ℕ} 0 1 = cc in absurd (omega arith)
-        go true f none none true g q =
+        go true f (Some n) p z g q = let w : ◌≡◌ {A = ℕ} 0 1 = cc in absurd (omega arith)
+        go true f None (Some n) z g q = let w : ◌≡◌ {A = ℕ} 0 1 = cc in absurd (omega arith)
+        go true f None None false g q = let w : ◌≡◌ {A = ℕ} 0 1 = cc in absurd (omega arith)
+        go true f None None true g q =
             let i : halve run halvings 0 low high ≡ b = cc in
             let h = g refl in
             record { asked = f refl; low_side = h.0; high_side = h.1; is = sym i }

@@ -1,7 +1,7 @@
 -- 02, request 1, "Find the threshold amplitude": what a search answers, by the plain run alone, and how much of the memories lent to it it may
 -- leave changed. Definitions only.
 use Rattle.std.specs.Prelude.{◌≡◌, ℕ, ◌+◌, ◌^◌, ◌<◌, ◌≤◌, Bool, true, false, cond, ◌&&◌, List, length, drop, negsuc, nat_le, nat_lt, Float}
-use Rattle.std.proofs.Math.Option.{Option, none, some}
+use Rattle.std.specs.Prelude.{Option, None, Some}
 use Rattle.std.specs.Float.{fin, binary64}
 use Rattle.std.specs.Float.Ieee.{mul}
 use Rattle.vectors.specs.Constants.{whole}
@@ -43,16 +43,16 @@ is_collapse (refused_run n) = false
 
 -- "begin's checks": the number that begin refused with
 abbrev pub begun_refusal : Ran → Option ℕ
-begun_refusal (not_begun n) = some n
-begun_refusal (not_run n) = none
-begun_refusal (ran_to o k t) = none
+begun_refusal (not_begun n) = Some n
+begun_refusal (not_run n) = None
+begun_refusal (ran_to o k t) = None
 
 -- "16 when the low end's run isn't timeout or the high end's isn't collapse .., after .. begin's checks for low, then high"
 unfoldable pub ends_refusal : (low high : Ran) → Option ℕ
 ends_refusal low high =
-    option (begun_refusal low) some
-    (option (begun_refusal high) some
-    (cond (is_timeout (side_of low) && is_collapse (side_of high)) none (some 16)))
+    option (begun_refusal low) Some
+    (option (begun_refusal high) Some
+    (cond (is_timeout (side_of low) && is_collapse (side_of high)) None (Some 16)))
 
 -- "15 for ends not low < high <= 2^42 or halvings above 40, before any run"
 abbrev pub is_asked : (low high halvings : ℕ) → Bool

@@ -1,6 +1,6 @@
 -- Laws of the search: what the ends' runs say, and what the calls of the code leave together.
 use Rattle.std.specs.Prelude.{◌≡◌, ℕ, ◌^◌, ◌<◌, ◌≤◌, Bool, true, false, cond, ◌&&◌, List, length, drop, nat_le, nat_lt, refl, Float}
-use Rattle.std.proofs.Math.Option.{Option, none, some}
+use Rattle.std.specs.Prelude.{Option, None, Some}
 use Rattle.std.proofs.Common.{sym, ◌∙◌, subst}
 use Rattle.std.proofs.Math.Path.{ap, ap₂}
 use borrow.Author.Tests.{lt-ltb, le-ltb, le-leb, lt-leb}
@@ -16,17 +16,17 @@ use Rattle.threshold.specs.Search.{amplitude_at, side_of, is_timeout, is_collaps
 
 -- ---- the ends
 module _ (low high : Ran) where
-  pub ends_low : (n : ℕ) → begun_refusal low ≡ some n → some n ≡ ends_refusal low high
+  pub ends_low : (n : ℕ) → begun_refusal low ≡ Some n → Some n ≡ ends_refusal low high
   unfolding ends_refusal
   ends_low n e = rw e
 
-  pub ends_high : (n : ℕ) → begun_refusal low ≡ none → begun_refusal high ≡ some n → some n ≡ ends_refusal low high
+  pub ends_high : (n : ℕ) → begun_refusal low ≡ None → begun_refusal high ≡ Some n → Some n ≡ ends_refusal low high
   unfolding ends_refusal
   ends_high n e f = rw (e, f)
 
   pub ends_both :
-      (b : Bool) → begun_refusal low ≡ none → begun_refusal high ≡ none → (is_timeout (side_of low) && is_collapse (side_of high)) ≡ b →
-      cond b none (some 16) ≡ ends_refusal low high
+      (b : Bool) → begun_refusal low ≡ None → begun_refusal high ≡ None → (is_timeout (side_of low) && is_collapse (side_of high)) ≡ b →
+      cond b None (Some 16) ≡ ends_refusal low high
   unfolding ends_refusal
   ends_both b e f g = rw (e, f, g)
 
@@ -38,9 +38,9 @@ begun_refusal_lem s a state work budget =
     go (begin_refusal t state work 0) (too_many (has_ended t (start t)) 0 budget) (outcome_of t (plain_run t budget)) (plain_run t budget).steps (plain_run t budget).state.time
   where
     go : (o : Option ℕ) (b : Bool) (x : Outcome) (k : ℕ) (time : Float) → begun_refusal (option o not_begun (cond b (not_run 14) (ran_to x k time))) ≡ o
-    go (some n) b x k time = refl
-    go none true x k time = refl
-    go none false x k time = refl
+    go (Some n) b x k time = refl
+    go None true x k time = refl
+    go None false x k time = refl
 
 -- so where low's run is not timeout, a high end that is only begun refuses the ends alike
 pub ends_begun :
@@ -51,11 +51,11 @@ ends_begun low s a state work budget = go (is_timeout (side_of low))
   where
     go :
         (b : Bool) →
-        option (begun_refusal low) some (option (begun_refusal (ran_at s a state work (cond b budget 0))) some (cond (b && is_collapse (side_of (ran_at s a state work (cond b budget 0)))) none (some 16)))
-        ≡ option (begun_refusal low) some (option (begun_refusal (ran_at s a state work budget)) some (cond (b && is_collapse (side_of (ran_at s a state work budget))) none (some 16)))
+        option (begun_refusal low) Some (option (begun_refusal (ran_at s a state work (cond b budget 0))) Some (cond (b && is_collapse (side_of (ran_at s a state work (cond b budget 0)))) None (Some 16)))
+        ≡ option (begun_refusal low) Some (option (begun_refusal (ran_at s a state work budget)) Some (cond (b && is_collapse (side_of (ran_at s a state work budget))) None (Some 16)))
     go true = refl
     go false =
-        ap (λ (o : Option ℕ). option (begun_refusal low) some (option o some (some 16)))
+        ap (λ (o : Option ℕ). option (begun_refusal low) Some (option o Some (Some 16)))
         (begun_refusal_lem s a state work 0 ∙ sym (begun_refusal_lem s a state work budget))
 
 -- ---- memories
@@ -101,7 +101,7 @@ module _
   both : Untouched s state work state₂ work₂
   both = untouched_both s state work state₁ work₁ state₂ work₂ long₁ long-work₁ ran₁.untouched ran₂.untouched
 
-  pub found_refused : (n : ℕ) → some n ≡ ends_refusal r₁ r₂ → Found unit s low high halvings budget state work (refused_search n) state₂ work₂
+  pub found_refused : (n : ℕ) → Some n ≡ ends_refusal r₁ r₂ → Found unit s low high halvings budget state work (refused_search n) state₂ work₂
   unfolding sought_of
   found_refused n e =
       record {
@@ -110,7 +110,7 @@ module _
       }
 
   pub found_bracket :
-      none ≡ ends_refusal r₁ r₂ → length state₂ ≡ length state → length work₂ ≡ length work → (b : Bracket) (state₃ work₃ : List Float) →
+      None ≡ ends_refusal r₁ r₂ → length state₂ ≡ length state → length work₂ ≡ length work → (b : Bracket) (state₃ work₃ : List Float) →
       Halved unit s low high halvings 0 budget state₂ work₂ b state₃ work₃ → Found unit s low high halvings budget state work (found b) state₃ work₃
   unfolding sought_of
   found_bracket e long long-work b state₃ work₃ h =
@@ -123,9 +123,9 @@ module _
 
 -- ---- the search
 module _ (unit : Float) (s : Settings) (low high halvings budget : ℕ) (state work : List Float) where
-  done_15 : is_asked low high halvings ≡ false → SearchDone unit s low high halvings budget state work (refused_search 15) state work
+  pub not_asked : is_asked low high halvings ≡ false → SearchDone unit s low high halvings budget state work (refused_search 15) state work
   unfolding search_of
-  done_15 e =
+  not_asked e =
       record {
         answer = ap (λ (b : Bool). cond b (sought_of unit s budget (length state) (length work) low high halvings) (refused_search 15)) (sym e);
         state_is = refl;
@@ -133,17 +133,17 @@ module _ (unit : Float) (s : Settings) (low high halvings budget : ℕ) (state w
       }
 
   pub ends_turned : high ≤ low → SearchDone unit s low high halvings budget state work (refused_search 15) state work
-  ends_turned h = done_15 (rw (le-ltb low high h))
+  ends_turned h = not_asked (rw (le-ltb low high h))
 
   pub ends_large : 2 ^ 42 < high → SearchDone unit s low high halvings budget state work (refused_search 15) state work
-  ends_large h = done_15 (go (nat_lt low high))
+  ends_large h = not_asked (go (nat_lt low high))
     where
       go : (b : Bool) → (b && (nat_le high (2 ^ 42) && nat_le halvings 40)) ≡ false
       go true = rw (lt-leb high (2 ^ 42) h)
       go false = refl
 
   pub halvings_many : 40 < halvings → SearchDone unit s low high halvings budget state work (refused_search 15) state work
-  halvings_many h = done_15 (go (nat_lt low high) (nat_le high (2 ^ 42)))
+  halvings_many h = not_asked (go (nat_lt low high) (nat_le high (2 ^ 42)))
     where
       go : (b c : Bool) → (b && (c && nat_le halvings 40)) ≡ false
       go true true = rw (lt-leb halvings 40 h)

@@ -1,101 +1,65 @@
 // What the runs at the two ends of a search say of it.
 ghost use Rattle.std.specs.Prelude.{◌≡◌, if◌then◌else◌};
 ghost use Rattle.run.specs.Answers.{ran_of};
-ghost use Rattle.threshold.specs.Search.{side_of, is_timeout, is_collapse, begun_refusal, ends_refusal};
-ghost use Rattle.threshold.specs.Answers.{side_is, refusal_of};
+ghost use Rattle.run.specs.Refusal as run;
+ghost use Rattle.threshold.specs.Search.{side_of, is_timeout, begun_refusal, ends_refusal};
+ghost use Rattle.threshold.specs.Answers.{side_is};
+ghost use Rattle.threshold.specs.Refusal.{refusal_of};
 
-use run::skip_run::Ran;
-use vectors::answer::and_also;
+use crate::refusal::Refusal;
+use run::outcome::Outcome;
+use run::skip_run::{Ended, NotRun};
 
-// What a run answers to a search.
-#[derive(Clone, Copy)]
+// What a run that is not refused answers to a search.
+#[derive(Clone, Copy, Debug, PartialEq, Eq)]
 pub(crate) enum Side {
     Timeout,
     Collapse,
     Neither,
-    Refused(u8),
 }
 
-#[derive(Clone, Copy)]
-pub(crate) enum Verdict {
-    Sound,
-    Refused(u8),
-}
-
-pub(crate) fn side_of(ran: Ran) -> Side
+pub(crate) fn side_of(ran: Result<Ended, NotRun>) -> Result<Side, run::refusal::Refusal>
     ensures { side_is result ≡ side_of (ran_of ran) }
 {
-    match ran {
-        Ran::NotBegun(n) => Side::Refused(n),
-        Ran::Refused(n) => Side::Refused(n),
-        Ran::Collapse(_, _, _) => Side::Collapse,
-        Ran::Broken(_, _) => Side::Neither,
-        Ran::Timeout(_, _) => Side::Timeout,
-        Ran::Spent(_, _) => Side::Neither,
-    }
-}
-
-fn is_timeout(side: Side) -> bool
-    ensures { result ≡ is_timeout (side_is side) }
-{
-    match side {
-        Side::Timeout => true,
-        Side::Collapse => false,
-        Side::Neither => false,
-        Side::Refused(_) => false,
-    }
-}
-
-fn is_collapse(side: Side) -> bool
-    ensures { result ≡ is_collapse (side_is side) }
-{
-    match side {
-        Side::Timeout => false,
-        Side::Collapse => true,
-        Side::Neither => false,
-        Side::Refused(_) => false,
-    }
+    Ok(match ran?.outcome {
+        Outcome::Collapse(_) => Side::Collapse,
+        Outcome::Timeout => Side::Timeout,
+        Outcome::Broken | Outcome::Spent => Side::Neither,
+    })
 }
 
 // The budget for the run at the high end: none where low's run is not timeout, for then it need only be begun.
-pub(crate) fn high_budget(low: Ran, budget: u32) -> u32
+pub(crate) fn high_budget(low: Result<Ended, NotRun>, budget: u32) -> u32
     ensures { result ≡ (if is_timeout (side_of (ran_of low)) then budget else 0) }
 {
-    let at_low = side_of(low);
-    if is_timeout(at_low) {
+    if side_of(low) == Ok(Side::Timeout) {
         return budget;
     }
     0
 }
 
 // Whether begin refused.
-fn begin_verdict(ran: Ran) -> Verdict
-    ensures { refusal_of result ≡ begun_refusal (ran_of ran) }
+fn begin_verdict(ran: Result<Ended, NotRun>) -> Result<(), run::refusal::Refusal>
+    ensures { run.refusal_of result ≡ begun_refusal (ran_of ran) }
 {
     match ran {
-        Ran::NotBegun(n) => Verdict::Refused(n),
-        Ran::Refused(_) => Verdict::Sound,
-        Ran::Collapse(_, _, _) => Verdict::Sound,
-        Ran::Broken(_, _) => Verdict::Sound,
-        Ran::Timeout(_, _) => Verdict::Sound,
-        Ran::Spent(_, _) => Verdict::Sound,
+        Err(NotRun::Begin(refusal)) => Err(refusal),
+        _ => Ok(()),
     }
 }
 
-// Whether the ends are refused by what their runs answer: begin's number for low, then for high, then 16.
-pub(crate) fn ends_verdict(low: Ran, high: Ran) -> Verdict
+// Whether the ends are refused by what their runs answer: by begin at low, then at high, then by their sides.
+#[tactic(auto, unfolding(crate::specs::Search::ends_refusal))]
+pub(crate) fn ends_verdict(
+    low: Result<Ended, NotRun>,
+    high: Result<Ended, NotRun>,
+) -> Result<(), Refusal>
     ensures { refusal_of result ≡ ends_refusal (ran_of low) (ran_of high) }
 {
-    if let Verdict::Refused(n) = begin_verdict(low) {
-        return Verdict::Refused(n);
+    begin_verdict(low)?;
+    begin_verdict(high)?;
+    if side_of(low) == Ok(Side::Timeout) && side_of(high) == Ok(Side::Collapse) {
+        return Ok(());
     }
-    if let Verdict::Refused(n) = begin_verdict(high) {
-        return Verdict::Refused(n);
-    }
-    let at_low = side_of(low);
-    let at_high = side_of(high);
-    if and_also(is_timeout(at_low), is_collapse(at_high)) {
-        return Verdict::Sound;
-    }
-    Verdict::Refused(16)
+    Err(Refusal::Sides)
 }

@@ -6,12 +6,15 @@ ghost use Rattle.run.specs.Answers.{ran_of};
 ghost use Rattle.run.specs.SkipRun.{SkipRan};
 ghost use Rattle.threshold.specs.Search.{unit40, amplitude_at, Ends, Halved, Found, SearchDone};
 ghost use Rattle.threshold.specs.Answers.{why_of, bracket_of, searched_of};
+ghost use Rattle.threshold.specs.Halving.{stop};
 
 mod ends;
+pub mod refusal;
 
-use crate::ends::{Side, Verdict, ends_verdict, high_budget, side_of};
+use crate::ends::{Side, ends_verdict, high_budget, side_of};
+use crate::refusal::Refusal;
 use run::settings::Settings;
-use run::skip_run::{Ran, skip_run};
+use run::skip_run::{Ended, NotRun, skip_run};
 
 // 2^-40.
 const UNIT: f64 = 9.094947017729282379150390625e-13;
@@ -27,7 +30,7 @@ pub enum Why {
     Used,
     Adjacent,
     Neither,
-    Refused(u8),
+    Refused(run::refusal::Refusal),
 }
 
 // Both ends, the halvings made, and why the search stopped.
@@ -37,13 +40,6 @@ pub struct Bracket {
     pub high: u64,
     pub made: u32,
     pub why: Why,
-}
-
-// A refusal's number, or the bracket.
-#[derive(Clone, Copy)]
-pub enum Searched {
-    Refused(u8),
-    Found(Bracket),
 }
 
 // The runs of a search: their settings but for the amplitude, the unit of amplitudes, the budget of each.
@@ -62,23 +58,11 @@ fn amplitude_at(unit: f64, units: u64) -> f64
 }
 
 // The run at so many units.
-fn run_at(runs: Runs, units: u64, state: &mut [f64], work: &mut [f64]) -> Ran
+fn run_at(runs: Runs, units: u64, state: &mut [f64], work: &mut [f64]) -> Result<Ended, NotRun>
     ensures { SkipRan runs.settings (amplitude_at runs.unit units) runs.budget state.old work.old (ran_of result) state.new work.new }
 {
-    let settings = runs.settings;
     let amplitude = amplitude_at(runs.unit, units);
-    skip_run(settings, amplitude, runs.budget, state, work)
-}
-
-fn stopped(low: u64, high: u64, made: u32, why: Why) -> Bracket
-    ensures { bracket_of result ≡ record { low = low; high = high; made = made; why = why_of why } }
-{
-    Bracket {
-        low: low,
-        high: high,
-        made: made,
-        why: why,
-    }
+    skip_run(runs.settings, amplitude, runs.budget, state, work)
 }
 
 // Searches the half that remains, with so many halvings left.
@@ -94,20 +78,28 @@ fn halve(
     requires { Ends low high left made }
     ensures { Halved runs.unit runs.settings low high left made runs.budget state.old work.old (bracket_of result) state.new work.new }
 {
+    let stopped = |why: Why| -> Bracket
+        ensures { bracket_of result ≡ stop low high made (why_of why) }
+    {
+        Bracket {
+            low,
+            high,
+            made,
+            why,
+        }
+    };
     if left == 0 {
-        return stopped(low, high, made, Why::Used);
+        return stopped(Why::Used);
     }
     if high - low == 1 {
-        return stopped(low, high, made, Why::Adjacent);
+        return stopped(Why::Adjacent);
     }
     let middle = (low + high) / 2;
-    let ran = run_at(runs, middle, state, work);
-    let side = side_of(ran);
-    match side {
-        Side::Timeout => halve(runs, middle, high, left - 1, made + 1, state, work),
-        Side::Collapse => halve(runs, low, middle, left - 1, made + 1, state, work),
-        Side::Neither => stopped(low, high, made, Why::Neither),
-        Side::Refused(n) => stopped(low, high, made, Why::Refused(n)),
+    match side_of(run_at(runs, middle, state, work)) {
+        Ok(Side::Timeout) => halve(runs, middle, high, left - 1, made + 1, state, work),
+        Ok(Side::Collapse) => halve(runs, low, middle, left - 1, made + 1, state, work),
+        Ok(Side::Neither) => stopped(Why::Neither),
+        Err(refusal) => stopped(Why::Refused(refusal)),
     }
 }
 
@@ -119,26 +111,18 @@ fn bracketed(
     halvings: u32,
     state: &mut [f64],
     work: &mut [f64],
-) -> Searched
+) -> Result<Bracket, Refusal>
     requires { Ends low high halvings 0 }
     ensures { Found runs.unit runs.settings low high halvings runs.budget state.old work.old (searched_of result) state.new work.new }
 {
     let at_low = run_at(runs, low, state, work);
-    let settings = runs.settings;
     let runs_high = Runs {
-        unit: runs.unit,
-        settings: settings,
         budget: high_budget(at_low, runs.budget),
+        ..runs
     };
     let at_high = run_at(runs_high, high, state, work);
-    let verdict = ends_verdict(at_low, at_high);
-    match verdict {
-        Verdict::Refused(n) => Searched::Refused(n),
-        Verdict::Sound => {
-            let found = halve(runs, low, high, halvings, 0, state, work);
-            Searched::Found(found)
-        }
-    }
+    ends_verdict(at_low, at_high)?;
+    Ok(halve(runs, low, high, halvings, 0, state, work))
 }
 
 // The bracket between two ends, in units of `unit`.
@@ -151,22 +135,16 @@ pub fn search_in(
     budget: u32,
     state: &mut [f64],
     work: &mut [f64],
-) -> Searched
+) -> Result<Bracket, Refusal>
     ensures { SearchDone unit s low high halvings budget state.old work.old (searched_of result) state.new work.new }
 {
-    if high <= low {
-        return Searched::Refused(15);
-    }
-    if high > MOST_UNITS {
-        return Searched::Refused(15);
-    }
-    if halvings > MOST_HALVINGS {
-        return Searched::Refused(15);
+    if high <= low || high > MOST_UNITS || halvings > MOST_HALVINGS {
+        return Err(Refusal::Ends);
     }
     let runs = Runs {
-        unit: unit,
+        unit,
         settings: s,
-        budget: budget,
+        budget,
     };
     bracketed(runs, low, high, halvings, state, work)
 }
@@ -180,7 +158,7 @@ pub fn search(
     budget: u32,
     state: &mut [f64],
     work: &mut [f64],
-) -> Searched
+) -> Result<Bracket, Refusal>
     ensures { SearchDone unit40 s low high halvings budget state.old work.old (searched_of result) state.new work.new }
 {
     search_in(UNIT, s, low, high, halvings, budget, state, work)

@@ -1,44 +1,38 @@
-// The line of a case.
-use std::io;
-use threshold::{Bracket, Searched, Why};
+// How the answer of a search is printed.
+use std::fmt;
+use threshold::refusal::Refusal;
+use threshold::{Bracket, Why};
 
-// The case's number, a digest of what is asked, the answer, and how many numbers changed that must not.
-pub fn line(
-    rt: &impl Print,
-    k: usize,
-    asked: u64,
-    answer: Searched,
-    beyond: u64,
-) -> io::Result<()> {
-    number(rt, "case ", k as u64)?;
-    number(rt, " asked ", asked)?;
-    match answer {
-        Searched::Refused(n) => number(rt, " refused ", n as u64)?,
-        Searched::Found(b) => bracket(rt, b)?,
+// A refusal's number, or both ends, the halvings made and why the search stopped.
+#[derive(Clone, Copy)]
+pub struct Shown(pub Result<Bracket, Refusal>);
+
+impl fmt::Display for Shown {
+    fn fmt<W: fmt::Write>(&self, f: &mut fmt::Formatter<W>) -> fmt::Result {
+        match self.0 {
+            Err(refusal) => write!(f, "refused {}", u8::from(refusal)),
+            Ok(
+                Bracket {
+                    low,
+                    high,
+                    made,
+                    why,
+                },
+            ) => write!(f, "low {low} high {high} made {made} why {}", Reason(why)),
+        }
     }
-    number(rt, " beyond ", beyond)?;
-    println!(rt)
 }
 
-// The word and n.
-fn number(rt: &impl Print, word: &str, n: u64) -> io::Result<()> {
-    print!(rt; "{word}{n}")
-}
+#[derive(Clone, Copy)]
+struct Reason(Why);
 
-fn bracket(rt: &impl Print, b: Bracket) -> io::Result<()> {
-    number(rt, " low ", b.low)?;
-    number(rt, " high ", b.high)?;
-    number(rt, " made ", b.made as u64)?;
-    print!(rt; " why")?;
-    let why = b.why;
-    reason(rt, why)
-}
-
-fn reason(rt: &impl Print, why: Why) -> io::Result<()> {
-    match why {
-        Why::Used => print!(rt; " used"),
-        Why::Adjacent => print!(rt; " adjacent"),
-        Why::Neither => print!(rt; " neither"),
-        Why::Refused(n) => number(rt, " refused ", n as u64),
+impl fmt::Display for Reason {
+    fn fmt<W: fmt::Write>(&self, f: &mut fmt::Formatter<W>) -> fmt::Result {
+        match self.0 {
+            Why::Used => write!(f, "used"),
+            Why::Adjacent => write!(f, "adjacent"),
+            Why::Neither => write!(f, "neither"),
+            Why::Refused(refusal) => write!(f, "refused {}", u8::from(refusal)),
+        }
     }
 }

@@ -7,13 +7,14 @@ mod memories;
 mod searches;
 mod table;
 
+use memories::{Memories, STATE, WORK};
 use std::io;
 
 fn main(rt: HostRuntime) -> io::Result<()> {
-    let mut state = [0.0; 1040];
-    let mut work = [0.0; 5168];
-    for k in 0..searches::CASES {
-        searches::carry_out(&rt, k, &mut state, &mut work)?;
-    }
-    Ok(())
+    let mut memories = Memories {
+        state: [0.0; STATE],
+        work: [0.0; WORK],
+    };
+    searches::written(&rt, &mut memories)?;
+    searches::drawn(&rt, &mut memories)
 }

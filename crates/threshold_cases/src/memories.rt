@@ -1,42 +1,36 @@
 // The two memories: what stands in them before a search, and how many of their numbers a search changed.
-ghost use Rattle.std.specs.Prelude.{◌≤◌};
+use vectors::grid::length_at_discretization;
+
+pub const STATE: usize = 1040;
+
+pub const WORK: usize = 5168;
 
 // What the memories are filled with.
 const FILLER: f64 = 1.2345678901234567e-89;
 
-pub fn least(x: u64, most: usize) -> usize
-    ensures { result ≤ most }
-{
-    if x < most as u64 {
-        return x as usize;
-    }
-    most
+#[derive(Drop)]
+pub struct Memories {
+    pub state: [f64; STATE],
+    pub work: [f64; WORK],
 }
 
-pub fn fill(values: &mut [f64]) {
-    for i in 0..values.len() {
-        values[i] = FILLER;
+impl Memories {
+    pub fn fill(&mut self) {
+        self.state.fill(FILLER);
+        self.work.fill(FILLER);
+    }
+
+    // How many numbers changed that runs of a level may not change.
+    pub fn changed_beyond(&self, level: u32) -> usize {
+        let n = length_at_discretization(level).min(129);
+        changed(&self.state[8 * n..]).wrapping_add(changed(&self.work[40 * n..]))
+    }
+
+    pub fn changed(&self) -> usize {
+        changed(&self.state).wrapping_add(changed(&self.work))
     }
 }
 
-// How many numbers from the one at `from` on are no longer what they were filled with.
-pub fn changed(from: u64, values: &[f64]) -> u64 {
-    let end = values.len();
-    let start = least(from, end);
-    differing(&values[start..end])
-}
-
-fn differing(values: &[f64]) -> u64 {
-    let mut count = 0;
-    for i in 0..values.len() {
-        count = counted(count, values[i]);
-    }
-    count
-}
-
-fn counted(count: u64, x: f64) -> u64 {
-    if x == FILLER {
-        return count;
-    }
-    count.wrapping_add(1)
+fn changed(values: &[f64]) -> usize {
+    values.iter().filter(|x| **x != FILLER).count()
 }

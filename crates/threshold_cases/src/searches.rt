@@ -1,47 +1,76 @@
 // A search on parts of the memories, and what it may change there.
-use crate::lines::line;
-use crate::memories::{changed, fill, least};
-use crate::table::{ALONE, ROWS};
-use crate::{drawn, table};
+use crate::drawn::DRAWN;
+use crate::lines::Shown;
+use crate::memories::{Memories, STATE, WORK};
+use crate::table::{Row, WRITTEN};
 use cases::digest::mixed;
+use run::refusal::Refusal as RunRefusal;
 use run::settings::Settings;
 use std::io;
-use threshold::{Searched, search, search_in};
-use vectors::bits::of_bits;
+use threshold::refusal::Refusal;
+use threshold::{Bracket, search, search_in};
+use vectors::bits::{bits_of, of_bits};
 
-pub const CASES: usize = 225;
-
-// The numbers of state memory that a search of levels 5, 6 and 7 may change, then those of work memory.
-const USED: [u64; 6] = [264, 520, 1032, 1320, 2600, 5160];
-
+// `search_in`; `search`, which looks at no unit.
 #[derive(Clone, Copy)]
-struct Asked {
-    unit: f64,
-    settings: Settings,
-    low: u64,
-    high: u64,
-    halvings: u32,
-    budget: u32,
-    alone: bool,
+pub enum Call {
+    In,
+    Alone,
 }
 
-pub fn carry_out(rt: &impl Print, k: usize, state: &mut [f64], work: &mut [f64]) -> io::Result<()> {
-    fill(state);
-    fill(work);
-    let answer = on_parts(k, state, work);
-    let level = cell(k, 2);
-    let in_state = changed(used(answer, level, 0), state);
-    let in_work = changed(used(answer, level, 3), work);
-    line(rt, k, digest(k), answer, in_state.wrapping_add(in_work))
-}
-
-// Of the row's words.
-fn digest(k: usize) -> u64 {
-    let mut d = 1;
-    for i in 0..14usize {
-        d = with_word(d, cell(k, i));
+pub fn written(rt: &impl Print, memories: &mut Memories) -> io::Result<()> {
+    for (k, row) in WRITTEN.iter().enumerate() {
+        carry_out(rt, k, *row, memories)?;
     }
-    d
+    Ok(())
+}
+
+pub fn drawn(rt: &impl Print, memories: &mut Memories) -> io::Result<()> {
+    for (k, row) in DRAWN.iter().enumerate() {
+        let (unit, (amplitude, level, max_time, interval, dx_level, skip), bracket) = *row;
+        let given = (
+            of_bits(amplitude),
+            level,
+            of_bits(max_time),
+            of_bits(interval),
+            dx_level,
+            skip,
+        );
+        let row = (of_bits(unit), given, bracket, (STATE, WORK), Call::In);
+        carry_out(rt, WRITTEN.len() + k, row, memories)?;
+    }
+    Ok(())
+}
+
+// The case's number, a digest of what is asked, the answer, and how many numbers changed that must not.
+fn carry_out(rt: &impl Print, k: usize, row: Row, memories: &mut Memories) -> io::Result<()> {
+    let (_, (_, level, ..), ..) = row;
+    memories.fill();
+    let answer = memories.search(row);
+    print!(rt; "case {k} asked {} {}", digest(row), Shown(answer))?;
+    println!(rt; " beyond {}", beyond(answer, level, memories))
+}
+
+// Nothing may change where the search is refused before its first run begins.
+fn beyond(answer: Result<Bracket, Refusal>, level: u32, memories: &Memories) -> usize {
+    match answer {
+        Ok(_) | Err(Refusal::Sides | Refusal::Run(RunRefusal::InitialNan)) => {
+            memories.changed_beyond(level)
+        }
+        Err(_) => memories.changed(),
+    }
+}
+
+// Of all that is asked, floats by their bits.
+#[rattlefmt::skip]
+fn digest(row: Row) -> u64 {
+    let (unit, given, (low, high, halvings, budget), (state, work), call) = row;
+    let (amplitude, level, max_time, interval, dx_level, skip) = given;
+    let words = [
+        bits_of(unit), bits_of(amplitude), level as u64, bits_of(max_time), bits_of(interval), dx_level as u64, skip as u64,
+        low, high, halvings as u64, budget as u64, state as u64, work as u64, call as u64,
+    ];
+    words.iter().fold(1, |d, word| with_word(d, *word))
 }
 
 // The high half first.
@@ -49,68 +78,32 @@ fn with_word(d: u64, word: u64) -> u64 {
     mixed(mixed(d, word / 4294967296), word % 4294967296)
 }
 
-fn on_parts(k: usize, state: &mut [f64], work: &mut [f64]) -> Searched {
-    let a = least(cell(k, 11), state.len());
-    let b = least(cell(k, 12), work.len());
-    called(of_row(k), &mut state[0..a], &mut work[0..b])
-}
-
-fn called(q: Asked, state: &mut [f64], work: &mut [f64]) -> Searched {
-    if q.alone {
-        return search(q.settings, q.low, q.high, q.halvings, q.budget, state, work);
-    }
-    search_in(
-        q.unit, q.settings, q.low, q.high, q.halvings, q.budget, state, work,
-    )
-}
-
-// Nothing may change where the search is refused before its first run begins.
-fn used(answer: Searched, level: u64, memory: usize) -> u64 {
-    let sizes = USED;
-    let size = sizes[memory % 4 + ((level % 3 + 1) % 3) as usize];
-    match answer {
-        Searched::Refused(number) => used_by_refused(number, size),
-        Searched::Found(_) => size,
+impl Memories {
+    fn search(&mut self, row: Row) -> Result<Bracket, Refusal> {
+        let Memories { state, work } = self;
+        on_parts(row, state, work)
     }
 }
 
-fn used_by_refused(number: u8, size: u64) -> u64 {
-    match number {
-        13 | 16 => size,
-        _ => 0,
+fn on_parts(
+    row: Row,
+    state: &mut [f64; STATE],
+    work: &mut [f64; WORK],
+) -> Result<Bracket, Refusal> {
+    let (unit, given, (low, high, halvings, budget), (of_state, of_work), call) = row;
+    let (amplitude, level, max_time, interval, dx_level, skip) = given;
+    let settings = Settings {
+        amplitude,
+        level,
+        max_time,
+        interval,
+        dx_level,
+        skip,
+    };
+    let state = &mut state[..of_state.min(STATE)];
+    let work = &mut work[..of_work.min(WORK)];
+    match call {
+        Call::In => search_in(unit, settings, low, high, halvings, budget, state, work),
+        Call::Alone => search(settings, low, high, halvings, budget, state, work),
     }
-}
-
-fn of_row(k: usize) -> Asked {
-    Asked {
-        unit: of_bits(cell(k, 0)),
-        settings: settings(k),
-        low: cell(k, 7),
-        high: cell(k, 8),
-        halvings: low_half(cell(k, 9)),
-        budget: low_half(cell(k, 10)),
-        alone: cell(k, 13) == ALONE,
-    }
-}
-
-fn settings(k: usize) -> Settings {
-    Settings {
-        amplitude: of_bits(cell(k, 1)),
-        level: low_half(cell(k, 2)),
-        max_time: of_bits(cell(k, 3)),
-        interval: of_bits(cell(k, 4)),
-        dx_level: low_half(cell(k, 5)),
-        skip: cell(k, 6) == 1,
-    }
-}
-
-fn low_half(x: u64) -> u32 {
-    (x % 4294967296) as u32
-}
-
-fn cell(k: usize, column: usize) -> u64 {
-    if k < ROWS {
-        return table::cell(k, column);
-    }
-    drawn::cell(k - ROWS, column)
 }

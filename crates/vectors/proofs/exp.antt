@@ -4,4 +4,3 @@ mod Shift
 mod Range
 mod Cases
 mod Limits
-mod Mapped

@@ -1,3 +1,3 @@
--- What the proofs of this module share: the comparisons of `lesser` and `negative`, and what the loops keep.
+-- What the proofs of this module use: the comparisons of `lesser`, and what the chains of `min` and `position_at_or_below` compute.
 mod Comparisons
-mod FromIndex
+mod Chains

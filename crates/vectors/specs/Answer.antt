@@ -1,25 +1,29 @@
 -- The refusals of this layer, by the numbers that 01 gives them ("From the input", "From the state").
-use Rattle.std.specs.Prelude.{◌≡◌, refl, cond, ℕ, eqb}
-use Rattle.vectors.specs.declared.answer.Answer.{Answer}
-use Rattle.vectors.specs.declared.answer.Answer.TheVariants.{Done, RefusedLevel, RefusedLength}
+use Rattle.std.specs.Prelude.{◌≡◌, refl, cond, ℕ, eqb, Result, Ok, Err}
+use Rattle.vectors.specs.declared.answer.Refusal.{Refusal}
+use Rattle.vectors.specs.declared.answer.Refusal.TheVariants.{Level, Length}
 
--- 5: a level below 5 or above 16; 11: a memory of the wrong length; 0 where nothing is refused
-abbrev pub number_of : Answer → ℕ
-number_of Done = 0
-number_of RefusedLevel = 5
-number_of RefusedLength = 11
+-- 5: a level below 5 or above 16; 11: a memory of the wrong length
+abbrev pub refusal_number : Refusal → ℕ
+refusal_number Level = 5
+refusal_number Length = 11
 
--- what memory holds after the call: the result, or, after a refusal, what it held before
-abbrev pub left_by : {A : Type 0} → Answer → A → A → A
-left_by Done result before = result
-left_by RefusedLevel result before = before
-left_by RefusedLength result before = before
+-- the number of an answer: 0 where nothing is refused
+abbrev pub number_of : {A : Type 0} → Result A Refusal → ℕ
+number_of (Ok value) = 0
+number_of (Err refusal) = refusal_number refusal
+
+module _ {A B : Type 0} where
+  -- what memory holds after the call: the result, or, after a refusal, what it held before
+  abbrev pub left_by : Result A Refusal → B → B → B
+  left_by (Ok value) result before = result
+  left_by (Err refusal) result before = before
 
 -- the same by the number
 abbrev pub left_at : {A : Type 0} → ℕ → A → A → A
 left_at number result before = cond (eqb number 0) result before
 
-pub left_is : {A : Type 0} (answer : Answer) (result before : A) → left_by answer result before ≡ left_at (number_of answer) result before
-left_is Done result before = refl
-left_is RefusedLevel result before = refl
-left_is RefusedLength result before = refl
+pub left_is : {A B : Type 0} (answer : Result A Refusal) (result before : B) → left_by answer result before ≡ left_at (number_of answer) result before
+left_is (Ok value) result before = refl
+left_is (Err Level) result before = refl
+left_is (Err Length) result before = refl

@@ -19,7 +19,6 @@ pub mod Powers
 pub mod RowLaws
 pub mod RowSums
 pub mod RowsUsed
-pub mod Sign
 pub mod Stencil
 pub mod StencilLaws
 pub mod Tan

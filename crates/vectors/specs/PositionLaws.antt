@@ -1,7 +1,8 @@
 -- What `first_at_or_below` answers, element by element.
 use Rattle.std.specs.Prelude.{◌≡◌, refl, Bool, true, false, cond, List, [], ◌∷◌, ℕ, zero, suc, ◌<◌, length, get_or, Float}
 use Rattle.std.proofs.Common.{sym, ap, subst, ◌∙◌, true≢false, inl, inr, suc-le-suc, le_antisymm, le_of_suc-le-suc, not-suc-le-zero, zero-lt-suc}
-use Rattle.std.proofs.Math.Option.{Option, none, some, map, some-injective, some-ne-none, none-ne-some}
+use Rattle.std.specs.Prelude.{Option, None, Some, option_map}
+use Rattle.std.proofs.lemmas.Option.{none-some, same_Some}
 use Rattle.std.specs.Float.{nan}
 use Rattle.std.specs.Float.Ieee.{le}
 use Rattle.vectors.specs.MemoryLaws.{side}
@@ -24,31 +25,31 @@ module _ (bound x : Float) (xs : List Float) where
       go zero l = h
       go (suc j) l = f.earlier j (le_of_suc-le-suc l)
 
-pub first_some : (bound : Float) (xs : List Float) (i : ℕ) → first_at_or_below bound xs ≡ some i → First bound xs i
+pub first_some : (bound : Float) (xs : List Float) (i : ℕ) → first_at_or_below bound xs ≡ Some i → First bound xs i
 unfolding first_at_or_below
-first_some bound [] i e = absurd (none-ne-some i e)
+first_some bound [] i e = absurd (none-some i e)
 first_some bound (x ∷ xs) i e = go (le x bound) (first_at_or_below bound xs) refl (λ k f. first_some bound xs k f) e
   where
-    go : (b : Bool) (o : Option ℕ) → le x bound ≡ b → ((k : ℕ) → o ≡ some k → First bound xs k)
-        → cond b (some 0) (map suc o) ≡ some i → First bound (x ∷ xs) i
-    go true o h rest e = subst (First bound (x ∷ xs)) (some-injective 0 i e) (first_here bound x xs h)
-    go false none h rest e = absurd (none-ne-some i e)
-    go false (some k) h rest e = subst (First bound (x ∷ xs)) (some-injective (suc k) i e) (first_later bound x xs k h (rest k refl))
+    go : (b : Bool) (o : Option ℕ) → le x bound ≡ b → ((k : ℕ) → o ≡ Some k → First bound xs k)
+        → cond b (Some 0) (option_map suc o) ≡ Some i → First bound (x ∷ xs) i
+    go true o h rest e = subst (First bound (x ∷ xs)) (same_Some 0 i e) (first_here bound x xs h)
+    go false None h rest e = absurd (none-some i e)
+    go false (Some k) h rest e = subst (First bound (x ∷ xs)) (same_Some (suc k) i e) (first_later bound x xs k h (rest k refl))
 
-pub first_none : (bound : Float) (xs : List Float) → first_at_or_below bound xs ≡ none → (j : ℕ) → j < length xs → le (get_or xs j nan) bound ≡ false
+pub first_none : (bound : Float) (xs : List Float) → first_at_or_below bound xs ≡ None → (j : ℕ) → j < length xs → le (get_or xs j nan) bound ≡ false
 unfolding first_at_or_below
 first_none bound [] e j l = absurd (not-suc-le-zero l)
 first_none bound (x ∷ xs) e j l = go (le x bound) (first_at_or_below bound xs) refl (λ f k h. first_none bound xs f k h) e j l
   where
-    go : (b : Bool) (o : Option ℕ) → le x bound ≡ b → (o ≡ none → (k : ℕ) → k < length xs → le (get_or xs k nan) bound ≡ false)
-        → cond b (some 0) (map suc o) ≡ none → (j : ℕ) → j < length (x ∷ xs) → le (get_or (x ∷ xs) j nan) bound ≡ false
-    go true o h rest e j l = absurd (some-ne-none 0 e)
-    go false (some k) h rest e j l = absurd (some-ne-none (suc k) e)
-    go false none h rest e zero l = h
-    go false none h rest e (suc j) l = rest refl j (le_of_suc-le-suc l)
+    go : (b : Bool) (o : Option ℕ) → le x bound ≡ b → (o ≡ None → (k : ℕ) → k < length xs → le (get_or xs k nan) bound ≡ false)
+        → cond b (Some 0) (option_map suc o) ≡ None → (j : ℕ) → j < length (x ∷ xs) → le (get_or (x ∷ xs) j nan) bound ≡ false
+    go true o h rest e j l = absurd (none-some 0 (sym e))
+    go false (Some k) h rest e j l = absurd (none-some (suc k) (sym e))
+    go false None h rest e zero l = h
+    go false None h rest e (suc j) l = rest refl j (le_of_suc-le-suc l)
 
 -- the other way round
-pub first_is_some : (bound : Float) (xs : List Float) (i : ℕ) → First bound xs i → first_at_or_below bound xs ≡ some i
+pub first_is_some : (bound : Float) (xs : List Float) (i : ℕ) → First bound xs i → first_at_or_below bound xs ≡ Some i
 first_is_some bound xs i f = go (first_at_or_below bound xs) refl
   where
     same : (k : ℕ) → First bound xs k → k ≡ i
@@ -60,13 +61,13 @@ first_is_some bound xs i f = go (first_at_or_below bound xs) refl
       ]
     ]
 
-    go : (o : Option ℕ) → first_at_or_below bound xs ≡ o → o ≡ some i
-    go none e = absurd (true≢false (sym f.holds ∙ first_none bound xs e i f.within))
-    go (some k) e = ap {B = Option ℕ} some (same k (first_some bound xs k e))
+    go : (o : Option ℕ) → first_at_or_below bound xs ≡ o → o ≡ Some i
+    go None e = absurd (true≢false (sym f.holds ∙ first_none bound xs e i f.within))
+    go (Some k) e = ap {B = Option ℕ} Some (same k (first_some bound xs k e))
 
-pub first_is_none : (bound : Float) (xs : List Float) → ((j : ℕ) → j < length xs → le (get_or xs j nan) bound ≡ false) → first_at_or_below bound xs ≡ none
+pub first_is_none : (bound : Float) (xs : List Float) → ((j : ℕ) → j < length xs → le (get_or xs j nan) bound ≡ false) → first_at_or_below bound xs ≡ None
 first_is_none bound xs h = go (first_at_or_below bound xs) refl
   where
-    go : (o : Option ℕ) → first_at_or_below bound xs ≡ o → o ≡ none
-    go none e = refl
-    go (some k) e = let g = first_some bound xs k e in absurd (true≢false (sym g.holds ∙ h k g.within))
+    go : (o : Option ℕ) → first_at_or_below bound xs ≡ o → o ≡ None
+    go None e = refl
+    go (Some k) e = let g = first_some bound xs k e in absurd (true≢false (sym g.holds ∙ h k g.within))

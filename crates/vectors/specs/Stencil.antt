@@ -1,5 +1,6 @@
 -- The stencils of diff.rs (01, "Stencils"): "the weights kept as constant rows". Each sum is taken in the file's order. Definitions only.
-use Rattle.std.specs.Prelude.{Bool, true, false, cond, List, [], ◌∷◌, ℕ, zero, suc, ◌+◌, ◌-◌, ℤ, pos, negsuc, neg_ℤ, eqb, ltb, length, get_or, drop, set, Float}
+use Rattle.std.specs.Prelude.{Bool, true, false, cond, List, [], ◌∷◌, ℕ, zero, suc, ◌+◌, ◌-◌, ℤ, pos, negsuc, neg_ℤ, eqb, ltb, length, get_or, drop, set, unwrap_or, Float}
+use Rattle.std.specs.List.{reduce}
 use Rattle.std.specs.Float.{nan, binary64}
 use Rattle.std.specs.Float.Ieee.{add, mul, div, of_int, minus}
 use Rattle.vectors.specs.Constants.{whole, less}
@@ -74,16 +75,9 @@ products_from row xs i j (pos zero ∷ ws) = products_from row xs i (suc j) ws
 products_from row xs i j (pos (suc w) ∷ ws) = mul binary64 (of_int binary64 (pos (suc w))) (get_or xs (place_of row i j) nan) ∷ products_from row xs i (suc j) ws
 products_from row xs i j (negsuc w ∷ ws) = mul binary64 (of_int binary64 (negsuc w)) (get_or xs (place_of row i j) nan) ∷ products_from row xs i (suc j) ws
 
--- a + t₀ + t₁ + .., from the left
-unfoldable pub plus : Float → List Float → Float
-plus a [] = a
-plus a (t ∷ ts) = plus (add binary64 a t) ts
-
 -- t₀ + t₁ + .., from the left: nothing is added to the first
 unfoldable pub total : List Float → Float
-unfolding plus
-total [] = nan
-total (t ∷ ts) = plus t ts
+total ts = unwrap_or (reduce (add binary64) ts) nan
 
 -- the row's sum at point i
 unfoldable pub sum_at : Row → List Float → ℕ → Float

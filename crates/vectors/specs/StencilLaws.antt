@@ -12,8 +12,9 @@ use Rattle.std.specs.Float.{nan, binary64}
 use Rattle.std.specs.Float.Ieee.{mul, div, of_int, of_bits}
 use Rattle.vectors.specs.Constants.{whole}
 use Rattle.vectors.specs.MemoryLaws.{length_tab}
-use Rattle.vectors.specs.RowSums.{sum4, sum5, sum5hollow, sum6, sum6descending, sum7hollow}
-use Rattle.vectors.specs.Stencil.{Row, place_of, products_from, plus, total, sum_at, Rows, diff_rows, diff2_rows, row_at, inward, diff_left0, diff_left1, diff_inner, diff_right1, diff_right0, diff2_left0, diff2_left1, diff2_inner, diff2_right1, diff2_right0, diff3_row, diff_at, diff_of, diff2_at, diff2_of, diff3_at, diff3_of, neumann_of}
+use Rattle.vectors.specs.RowSums.{row_sum, hollow_sum, descending_sum}
+use Rattle.vectors.specs.RowLaws.{sum4_is, sum5_is, sum5hollow_is, sum6_is, sum6descending_is, sum7hollow_is}
+use Rattle.vectors.specs.Stencil.{Row, place_of, products_from, total, sum_at, Rows, diff_rows, diff2_rows, row_at, inward, diff_left0, diff_left1, diff_inner, diff_right1, diff_right0, diff2_left0, diff2_left1, diff2_inner, diff2_right1, diff2_right0, diff3_row, diff_at, diff_of, diff2_at, diff2_of, diff3_at, diff3_of, neumann_of}
 
 -- products of weights with the numbers from place k + j on, to the right
 unfoldable rightward : List ℤ → List Float → ℕ → ℕ → List Float
@@ -62,44 +63,44 @@ module _ (row : Row) (xs : List Float) (i k : ℕ) where
 
 -- ---- each row's sum, where its first number stands at k
 module _ (xs : List Float) (i k : ℕ) where
-  diff_left0_sum : k + 0 ≡ i → sum_at diff_left0 xs i ≡ sum5 diff_left0.weights xs k
-  unfolding diff_left0 rightward total plus
-  diff_left0_sum e = sum_right diff_left0 xs i k refl e ∙ simp add-zero
+  diff_left0_sum : k + 0 ≡ i → sum_at diff_left0 xs i ≡ row_sum diff_left0.weights xs k
+  unfolding diff_left0 rightward total
+  diff_left0_sum e = sum_right diff_left0 xs i k refl e ∙ simp add-zero (sym (sum5_is _ _ _ _ _ xs k))
 
-  diff_left1_sum : k + 1 ≡ i → sum_at diff_left1 xs i ≡ sum5 diff_left1.weights xs k
-  unfolding diff_left1 rightward total plus
-  diff_left1_sum e = sum_right diff_left1 xs i k refl e ∙ simp add-zero
+  diff_left1_sum : k + 1 ≡ i → sum_at diff_left1 xs i ≡ row_sum diff_left1.weights xs k
+  unfolding diff_left1 rightward total
+  diff_left1_sum e = sum_right diff_left1 xs i k refl e ∙ simp add-zero (sym (sum5_is _ _ _ _ _ xs k))
 
-  diff_inner_sum : k + 2 ≡ i → sum_at diff_inner xs i ≡ sum5hollow diff_inner.weights xs k
-  unfolding diff_inner rightward total plus
-  diff_inner_sum e = sum_right diff_inner xs i k refl e ∙ simp add-zero
+  diff_inner_sum : k + 2 ≡ i → sum_at diff_inner xs i ≡ hollow_sum diff_inner.weights xs k
+  unfolding diff_inner rightward total
+  diff_inner_sum e = sum_right diff_inner xs i k refl e ∙ simp add-zero (sym (sum5hollow_is _ _ _ _ _ xs k))
 
-  diff_right1_sum : k + 3 ≡ i → sum_at diff_right1 xs i ≡ sum5 diff_right1.weights xs k
-  unfolding diff_right1 rightward total plus
-  diff_right1_sum e = sum_right diff_right1 xs i k refl e ∙ simp add-zero
+  diff_right1_sum : k + 3 ≡ i → sum_at diff_right1 xs i ≡ row_sum diff_right1.weights xs k
+  unfolding diff_right1 rightward total
+  diff_right1_sum e = sum_right diff_right1 xs i k refl e ∙ simp add-zero (sym (sum5_is _ _ _ _ _ xs k))
 
-  diff_right0_sum : k + 4 ≡ i → sum_at diff_right0 xs i ≡ sum5 diff_right0.weights xs k
-  unfolding diff_right0 rightward total plus
-  diff_right0_sum e = sum_right diff_right0 xs i k refl e ∙ simp add-zero
+  diff_right0_sum : k + 4 ≡ i → sum_at diff_right0 xs i ≡ row_sum diff_right0.weights xs k
+  unfolding diff_right0 rightward total
+  diff_right0_sum e = sum_right diff_right0 xs i k refl e ∙ simp add-zero (sym (sum5_is _ _ _ _ _ xs k))
 
-  diff2_left0_sum : k + 0 ≡ i → sum_at diff2_left0 xs i ≡ sum6 diff2_left0.weights xs k
-  unfolding diff2_left0 rightward total plus
-  diff2_left0_sum e = sum_right diff2_left0 xs i k refl e ∙ simp add-zero
+  diff2_left0_sum : k + 0 ≡ i → sum_at diff2_left0 xs i ≡ row_sum diff2_left0.weights xs k
+  unfolding diff2_left0 rightward total
+  diff2_left0_sum e = sum_right diff2_left0 xs i k refl e ∙ simp add-zero (sym (sum6_is _ _ _ _ _ _ xs k))
 
-  diff2_left1_sum : k + 1 ≡ i → sum_at diff2_left1 xs i ≡ sum6 diff2_left1.weights xs k
-  unfolding diff2_left1 rightward total plus
-  diff2_left1_sum e = sum_right diff2_left1 xs i k refl e ∙ simp add-zero
+  diff2_left1_sum : k + 1 ≡ i → sum_at diff2_left1 xs i ≡ row_sum diff2_left1.weights xs k
+  unfolding diff2_left1 rightward total
+  diff2_left1_sum e = sum_right diff2_left1 xs i k refl e ∙ simp add-zero (sym (sum6_is _ _ _ _ _ _ xs k))
 
-  diff2_inner_sum : k + 2 ≡ i → sum_at diff2_inner xs i ≡ sum5 diff2_inner.weights xs k
-  unfolding diff2_inner rightward total plus
-  diff2_inner_sum e = sum_right diff2_inner xs i k refl e ∙ simp add-zero
+  diff2_inner_sum : k + 2 ≡ i → sum_at diff2_inner xs i ≡ row_sum diff2_inner.weights xs k
+  unfolding diff2_inner rightward total
+  diff2_inner_sum e = sum_right diff2_inner xs i k refl e ∙ simp add-zero (sym (sum5_is _ _ _ _ _ xs k))
 
-  diff3_row_sum : k + 3 ≡ i → sum_at diff3_row xs i ≡ sum7hollow diff3_row.weights xs k
-  unfolding diff3_row rightward total plus
-  diff3_row_sum e = sum_right diff3_row xs i k refl e ∙ simp add-zero
+  diff3_row_sum : k + 3 ≡ i → sum_at diff3_row xs i ≡ hollow_sum diff3_row.weights xs k
+  unfolding diff3_row rightward total
+  diff3_row_sum e = sum_right diff3_row xs i k refl e ∙ simp add-zero (sym (sum7hollow_is _ _ _ _ _ _ _ xs k))
 
-  diff2_right1_sum : i + 1 ≡ k + 5 → sum_at diff2_right1 xs i ≡ sum6descending diff2_right1.weights xs k
-  unfolding diff2_right1 leftward total plus
+  diff2_right1_sum : i + 1 ≡ k + 5 → sum_at diff2_right1 xs i ≡ descending_sum diff2_right1.weights xs k
+  unfolding diff2_right1 leftward total
   diff2_right1_sum e =
       let z : k + 5 - 0 ≡ k + 5 = omega arith in
       let a : k + 5 - 1 ≡ k + 4 = omega arith in
@@ -107,10 +108,10 @@ module _ (xs : List Float) (i k : ℕ) where
       let c : k + 5 - 3 ≡ k + 2 = omega arith in
       let d : k + 5 - 4 ≡ k + 1 = omega arith in
       let f : k + 5 - 5 ≡ k = omega arith in
-      sum_left diff2_right1 xs i (k + 5) refl e ∙ simp (z, a, b, c, d, f)
+      sum_left diff2_right1 xs i (k + 5) refl e ∙ simp (z, a, b, c, d, f) (sym (sum6descending_is _ _ _ _ _ _ xs k))
 
-  diff2_right0_sum : i + 0 ≡ k + 5 → sum_at diff2_right0 xs i ≡ sum6descending diff2_right0.weights xs k
-  unfolding diff2_right0 leftward total plus
+  diff2_right0_sum : i + 0 ≡ k + 5 → sum_at diff2_right0 xs i ≡ descending_sum diff2_right0.weights xs k
+  unfolding diff2_right0 leftward total
   diff2_right0_sum e =
       let z : k + 5 - 0 ≡ k + 5 = omega arith in
       let a : k + 5 - 1 ≡ k + 4 = omega arith in
@@ -118,7 +119,7 @@ module _ (xs : List Float) (i k : ℕ) where
       let c : k + 5 - 3 ≡ k + 2 = omega arith in
       let d : k + 5 - 4 ≡ k + 1 = omega arith in
       let f : k + 5 - 5 ≡ k = omega arith in
-      sum_left diff2_right0 xs i (k + 5) refl e ∙ simp (z, a, b, c, d, f)
+      sum_left diff2_right0 xs i (k + 5) refl e ∙ simp (z, a, b, c, d, f) (sym (sum6descending_is _ _ _ _ _ _ xs k))
 
 -- ---- the row of a point
 module _ (rows : Rows) (n i : ℕ) where
@@ -172,23 +173,23 @@ module _ (h : Float) (n : ℕ) (xs ys : List Float) (long : length xs ≡ n) (is
   unfolding diff_at
   diff_by row i p e = rw (long, p, e, is, twelve_is)
 
-  pub diff_left0_lem : r ≡ sum5 diff_left0.weights ys 0 → div binary64 r (mul binary64 twelve h) ≡ diff_at h xs 0
+  pub diff_left0_lem : r ≡ row_sum diff_left0.weights ys 0 → div binary64 r (mul binary64 twelve h) ≡ diff_at h xs 0
   unfolding diff_rows
   diff_left0_lem e = diff_by diff_left0 0 (row_left0 diff_rows n 0 refl) (e ∙ sym (diff_left0_sum ys 0 0 refl))
 
-  pub diff_left1_lem : r ≡ sum5 diff_left1.weights ys 0 → div binary64 r (mul binary64 twelve h) ≡ diff_at h xs 1
+  pub diff_left1_lem : r ≡ row_sum diff_left1.weights ys 0 → div binary64 r (mul binary64 twelve h) ≡ diff_at h xs 1
   unfolding diff_rows
   diff_left1_lem e = diff_by diff_left1 1 (row_left1 diff_rows n 1 refl) (e ∙ sym (diff_left1_sum ys 1 0 refl))
 
-  pub diff_inner_lem : (i : ℕ) → 2 ≤ i → i < n - 2 → r ≡ sum5hollow diff_inner.weights ys (i - 2) → div binary64 r (mul binary64 twelve h) ≡ diff_at h xs i
+  pub diff_inner_lem : (i : ℕ) → 2 ≤ i → i < n - 2 → r ≡ hollow_sum diff_inner.weights ys (i - 2) → div binary64 r (mul binary64 twelve h) ≡ diff_at h xs i
   unfolding diff_rows
   diff_inner_lem i a b e = diff_by diff_inner i (row_inner diff_rows n i a b) (e ∙ sym (diff_inner_sum ys i (i - 2) (omega arith)))
 
-  pub diff_right1_lem : 5 ≤ n → r ≡ sum5 diff_right1.weights ys (n - 5) → div binary64 r (mul binary64 twelve h) ≡ diff_at h xs (n - 2)
+  pub diff_right1_lem : 5 ≤ n → r ≡ row_sum diff_right1.weights ys (n - 5) → div binary64 r (mul binary64 twelve h) ≡ diff_at h xs (n - 2)
   unfolding diff_rows
   diff_right1_lem a e = diff_by diff_right1 (n - 2) (row_right1 diff_rows n (n - 2) (omega arith) (omega arith)) (e ∙ sym (diff_right1_sum ys (n - 2) (n - 5) (omega arith)))
 
-  pub diff_right0_lem : 5 ≤ n → r ≡ sum5 diff_right0.weights ys (n - 5) → div binary64 r (mul binary64 twelve h) ≡ diff_at h xs (n - 1)
+  pub diff_right0_lem : 5 ≤ n → r ≡ row_sum diff_right0.weights ys (n - 5) → div binary64 r (mul binary64 twelve h) ≡ diff_at h xs (n - 1)
   unfolding diff_rows
   diff_right0_lem a e = diff_by diff_right0 (n - 1) (row_right0 diff_rows n (n - 1) (omega arith) (omega arith)) (e ∙ sym (diff_right0_sum ys (n - 1) (n - 5) (omega arith)))
 
@@ -196,23 +197,23 @@ module _ (h : Float) (n : ℕ) (xs ys : List Float) (long : length xs ≡ n) (is
   unfolding diff2_at
   diff2_by row i p e = rw (long, p, e, is, twelve_is)
 
-  pub diff2_left0_lem : r ≡ sum6 diff2_left0.weights ys 0 → div binary64 r (mul binary64 twelve (mul binary64 h h)) ≡ diff2_at h xs 0
+  pub diff2_left0_lem : r ≡ row_sum diff2_left0.weights ys 0 → div binary64 r (mul binary64 twelve (mul binary64 h h)) ≡ diff2_at h xs 0
   unfolding diff2_rows
   diff2_left0_lem e = diff2_by diff2_left0 0 (row_left0 diff2_rows n 0 refl) (e ∙ sym (diff2_left0_sum ys 0 0 refl))
 
-  pub diff2_left1_lem : r ≡ sum6 diff2_left1.weights ys 0 → div binary64 r (mul binary64 twelve (mul binary64 h h)) ≡ diff2_at h xs 1
+  pub diff2_left1_lem : r ≡ row_sum diff2_left1.weights ys 0 → div binary64 r (mul binary64 twelve (mul binary64 h h)) ≡ diff2_at h xs 1
   unfolding diff2_rows
   diff2_left1_lem e = diff2_by diff2_left1 1 (row_left1 diff2_rows n 1 refl) (e ∙ sym (diff2_left1_sum ys 1 0 refl))
 
-  pub diff2_inner_lem : (i : ℕ) → 2 ≤ i → i < n - 2 → r ≡ sum5 diff2_inner.weights ys (i - 2) → div binary64 r (mul binary64 twelve (mul binary64 h h)) ≡ diff2_at h xs i
+  pub diff2_inner_lem : (i : ℕ) → 2 ≤ i → i < n - 2 → r ≡ row_sum diff2_inner.weights ys (i - 2) → div binary64 r (mul binary64 twelve (mul binary64 h h)) ≡ diff2_at h xs i
   unfolding diff2_rows
   diff2_inner_lem i a b e = diff2_by diff2_inner i (row_inner diff2_rows n i a b) (e ∙ sym (diff2_inner_sum ys i (i - 2) (omega arith)))
 
-  pub diff2_right1_lem : 6 ≤ n → r ≡ sum6descending diff2_right1.weights ys (n - 6) → div binary64 r (mul binary64 twelve (mul binary64 h h)) ≡ diff2_at h xs (n - 2)
+  pub diff2_right1_lem : 6 ≤ n → r ≡ descending_sum diff2_right1.weights ys (n - 6) → div binary64 r (mul binary64 twelve (mul binary64 h h)) ≡ diff2_at h xs (n - 2)
   unfolding diff2_rows
   diff2_right1_lem a e = diff2_by diff2_right1 (n - 2) (row_right1 diff2_rows n (n - 2) (omega arith) (omega arith)) (e ∙ sym (diff2_right1_sum ys (n - 2) (n - 6) (omega arith)))
 
-  pub diff2_right0_lem : 6 ≤ n → r ≡ sum6descending diff2_right0.weights ys (n - 6) → div binary64 r (mul binary64 twelve (mul binary64 h h)) ≡ diff2_at h xs (n - 1)
+  pub diff2_right0_lem : 6 ≤ n → r ≡ descending_sum diff2_right0.weights ys (n - 6) → div binary64 r (mul binary64 twelve (mul binary64 h h)) ≡ diff2_at h xs (n - 1)
   unfolding diff2_rows
   diff2_right0_lem a e = diff2_by diff2_right0 (n - 1) (row_right0 diff2_rows n (n - 1) (omega arith) (omega arith)) (e ∙ sym (diff2_right0_sum ys (n - 1) (n - 6) (omega arith)))
 
@@ -222,7 +223,7 @@ pub record Window (n i back : ℕ) : Type 0 where
   pub centred : inward n i ≡ i - back + 3
 
 module _ (xs ys : List Float) (is : ys ≡ xs) {r : Float} where
-  pub diff3_by : (i back : ℕ) → Window (length xs) i back → r ≡ sum7hollow diff3_row.weights ys (i - back) → div binary64 r eight ≡ diff3_at xs i
+  pub diff3_by : (i back : ℕ) → Window (length xs) i back → r ≡ hollow_sum diff3_row.weights ys (i - back) → div binary64 r eight ≡ diff3_at xs i
   unfolding diff3_at
   diff3_by i back w e = rw (w.centred, e, is, sym (diff3_row_sum xs (i - back + 3) (i - back) refl), eight_is)
 
@@ -257,9 +258,9 @@ pub windows_right : (n : ℕ) → 9 ≤ n → Windows n (n - 3) n 6
 windows_right n h = record { ordered = omega arith; inside = omega arith; each = λ i a b. window_right n i h a b }
 
 -- the value that `set_left_neumann_bc` computes from the sum r of the row of four
-pub neumann_is : (xs : List Float) {r : Float} → r ≡ sum4 (drop 1 diff_left0.weights) xs 1 → div binary64 r twenty_five ≡ neumann_of xs
-unfolding neumann_of total plus products_from diff_left0
-neumann_is xs e = rw (e, twenty_five_is)
+pub neumann_is : (xs : List Float) {r : Float} → r ≡ row_sum (drop 1 diff_left0.weights) xs 1 → div binary64 r twenty_five ≡ neumann_of xs
+unfolding neumann_of total products_from diff_left0
+neumann_is xs e = rw (e, sum4_is _ _ _ _ xs 1, twenty_five_is)
 
 -- a difference has one number for each point
 pub length-diff_of : (h : Float) (xs : List Float) → length (diff_of h xs) ≡ length xs

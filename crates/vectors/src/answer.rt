@@ -1,16 +1,26 @@
 // What a call answers that may refuse to do its work.
-ghost use Rattle.std.specs.Prelude.{◌≡◌, ◌&&◌, ◌+◌, leb};
-ghost use Rattle.vectors.specs.Answer.{number_of};
-ghost use Rattle.vectors.specs.Fault.{fault_of, both_fit, all_fit};
+ghost use Rattle.std.specs.Prelude.{◌≡◌, ◌+◌, ◌&&◌, leb};
+ghost use Rattle.vectors.specs.Answer.{refusal_number, number_of};
+ghost use Rattle.vectors.specs.Fault.{fault_of, all_fit};
 
 use crate::grid::length_at_discretization;
 
-// `number_of` in specs/Answer.antt gives each case the number that document 01 has for it.
-#[derive(Clone, Copy)]
-pub enum Answer {
-    Done,
-    RefusedLevel,
-    RefusedLength,
+// Why a call is refused. `refusal_number` in specs/Answer.antt gives each the number that document 01 has for it.
+#[derive(Clone, Copy, Debug, PartialEq, Eq)]
+pub enum Refusal {
+    Level,
+    Length,
+}
+
+impl From<Refusal> for u32 {
+    ghost from_gives = { λ refusal number. number ≡ refusal_number refusal };
+
+    fn from(refusal: Refusal) -> u32 {
+        match refusal {
+            Refusal::Level => 5,
+            Refusal::Length => 11,
+        }
+    }
 }
 
 // Whether both hold, with no branch left to the caller.
@@ -27,40 +37,25 @@ pub fn and_also(x: bool, y: bool) -> bool
 pub fn fits(len: usize, at: usize, n: usize) -> bool
     ensures { result ≡ leb (at + n) len }
 {
-    if len < n {
-        return false;
-    }
-    at <= len - n
+    n <= len && at <= len - n
 }
 
 // The answer to a call at this level, by whether its memories have the right lengths.
-pub fn checked(level: u32, fits: bool) -> Answer
+#[tactic(auto, unfolding(crate::specs::Fault::fault_of))]
+pub fn checked(level: u32, fits: bool) -> Result<(), Refusal>
     ensures { number_of result ≡ fault_of level fits }
 {
-    if level < 5 {
-        return Answer::RefusedLevel;
+    match level {
+        5..=16 if fits => Ok(()),
+        5..=16 => Err(Refusal::Length),
+        _ => Err(Refusal::Level),
     }
-    if 16 < level {
-        return Answer::RefusedLevel;
-    }
-    if fits {
-        return Answer::Done;
-    }
-    Answer::RefusedLength
 }
 
-// The answer to a call on two memories of lengths a and b, with a number for each point.
-pub fn checked_both(level: u32, a: usize, b: usize) -> Answer
-    ensures { number_of result ≡ fault_of level (both_fit level a b) }
+// The answer to a call on memories of these lengths, with a number for each point.
+pub fn checked_lengths(level: u32, lengths: &[usize]) -> Result<(), Refusal>
+    ensures { number_of result ≡ fault_of level (all_fit level lengths.now) }
 {
     let n = length_at_discretization(level);
-    checked(level, and_also(a == n, b == n))
-}
-
-// The same for three.
-pub fn checked_three(level: u32, a: usize, b: usize, c: usize) -> Answer
-    ensures { number_of result ≡ fault_of level (all_fit level a b c) }
-{
-    let n = length_at_discretization(level);
-    checked(level, and_also(and_also(a == n, b == n), c == n))
+    checked(level, lengths.iter().all(|len| *len == n))
 }

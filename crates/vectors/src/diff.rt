@@ -1,35 +1,29 @@
 // The finite differences of diff.rs, over lent parts.
-ghost use Rattle.std.specs.Prelude.{◌≡◌, length, ◌≤◌};
+ghost use Rattle.std.specs.Prelude.{◌≡◌, ◌≤◌, [], ◌∷◌, length};
 ghost use Rattle.vectors.specs.Answer.{number_of, left_by};
 ghost use Rattle.vectors.specs.Dissipation.{radial_correction_of, half_dissipation_of, dissipation_of};
 ghost use Rattle.vectors.specs.DissipationLaws.{corrected_by, scaled_by};
-ghost use Rattle.vectors.specs.Fault.{fault_of, both_fit, all_fit, short_of};
+ghost use Rattle.vectors.specs.Fault.{fault_of, all_fit, short_of};
 ghost use Rattle.vectors.specs.FaultLaws.{BothFit};
 ghost use Rattle.vectors.specs.Grid.{points_of, spacing_of};
 ghost use Rattle.vectors.specs.MemoryLaws.{Grown};
 ghost use Rattle.vectors.specs.Stencil.{diff_of, diff2_of, diff3_at, diff3_of, with_left_neumann};
 ghost use Rattle.vectors.specs.StencilLaws.{Windows};
 
-use crate::answer::{Answer, checked_both, checked_three};
+use crate::answer::{Refusal, checked_lengths};
 use crate::constants::DISSIPATION_FACTOR;
 use crate::field_vector::{fourth_power, square};
 use crate::grid::{delta, point};
 use crate::rows;
 
 // The first derivative along r of a vector on the grid of this level.
-pub fn diff(level: u32, vector: &[f64], out: &mut [f64]) -> Answer
-    ensures { (number_of result ≡ fault_of level (both_fit level (length vector.now) (length out.old)))
-        × (out.new ≡ left_by result (diff_of (spacing_of level) vector.now) out.old) }
+pub fn diff(level: u32, vector: &[f64], out: &mut [f64]) -> Result<(), Refusal>
+    ensures refused { number_of result ≡ fault_of level (all_fit level (length vector.now ∷ length out.old ∷ [])) }
+    ensures left { out.new ≡ left_by result (diff_of (spacing_of level) vector.now) out.old }
 {
-    let answer = checked_both(level, vector.len(), out.len());
-    match answer {
-        Answer::Done => {
-            diff_rows(delta(level), vector, out);
-            Answer::Done
-        }
-        Answer::RefusedLevel => Answer::RefusedLevel,
-        Answer::RefusedLength => Answer::RefusedLength,
-    }
+    checked_lengths(level, &[vector.len(), out.len()])?;
+    diff_rows(delta(level), vector, out);
+    Ok(())
 }
 
 fn diff_rows(h: f64, vector: &[f64], out: &mut [f64])
@@ -38,64 +32,49 @@ fn diff_rows(h: f64, vector: &[f64], out: &mut [f64])
 {
     let n = vector.len();
     let d = 12.0 * h;
-    out[0] = rows::row5(rows::DIFF_LEFT0, vector, 0) / d;
-    out[1] = rows::row5(rows::DIFF_LEFT1, vector, 0) / d;
-    let mut i = 2;
-    while i < n - 2 {
-        out[i] = rows::row5_hollow(rows::DIFF_INNER, vector, i - 2) / d;
-        i += 1;
+    out[0] = rows::row(rows::DIFF_LEFT0, vector, 0) / d;
+    out[1] = rows::row(rows::DIFF_LEFT1, vector, 0) / d;
+    for i in 2..n - 2 {
+        out[i] = rows::row_hollow(rows::DIFF_INNER, vector, i - 2) / d;
     }
-    out[n - 2] = rows::row5(rows::DIFF_RIGHT1, vector, n - 5) / d;
-    out[n - 1] = rows::row5(rows::DIFF_RIGHT0, vector, n - 5) / d;
+    out[n - 2] = rows::row(rows::DIFF_RIGHT1, vector, n - 5) / d;
+    out[n - 1] = rows::row(rows::DIFF_RIGHT0, vector, n - 5) / d;
 }
 
 // The second derivative along r.
-pub fn diff2(level: u32, vector: &[f64], out: &mut [f64]) -> Answer
-    ensures { (number_of result ≡ fault_of level (both_fit level (length vector.now) (length out.old)))
-        × (out.new ≡ left_by result (diff2_of (spacing_of level) vector.now) out.old) }
+pub fn diff2(level: u32, vector: &[f64], out: &mut [f64]) -> Result<(), Refusal>
+    ensures refused { number_of result ≡ fault_of level (all_fit level (length vector.now ∷ length out.old ∷ [])) }
+    ensures left { out.new ≡ left_by result (diff2_of (spacing_of level) vector.now) out.old }
 {
-    let answer = checked_both(level, vector.len(), out.len());
-    match answer {
-        Answer::Done => {
-            diff2_rows(delta(level), vector, out);
-            Answer::Done
-        }
-        Answer::RefusedLevel => Answer::RefusedLevel,
-        Answer::RefusedLength => Answer::RefusedLength,
-    }
+    checked_lengths(level, &[vector.len(), out.len()])?;
+    diff2_rows(delta(level), vector, out);
+    Ok(())
 }
 
+// Two functions, since one for both would take the four end values and a closure for the points between, and no line less.
 fn diff2_rows(h: f64, vector: &[f64], out: &mut [f64])
     requires { (6 ≤ length vector.now) × (length out.old ≡ length vector.now) }
     ensures { out.new ≡ diff2_of h vector.now }
 {
     let n = vector.len();
     let d = 12.0 * (h * h);
-    out[0] = rows::row6(rows::DIFF2_EDGE0, vector, 0) / d;
-    out[1] = rows::row6(rows::DIFF2_EDGE1, vector, 0) / d;
-    let mut i = 2;
-    while i < n - 2 {
-        out[i] = rows::row5(rows::DIFF2_INNER, vector, i - 2) / d;
-        i += 1;
+    out[0] = rows::row(rows::DIFF2_EDGE0, vector, 0) / d;
+    out[1] = rows::row(rows::DIFF2_EDGE1, vector, 0) / d;
+    for i in 2..n - 2 {
+        out[i] = rows::row(rows::DIFF2_INNER, vector, i - 2) / d;
     }
-    out[n - 2] = rows::row6_descending(rows::DIFF2_EDGE1, vector, n - 6) / d;
-    out[n - 1] = rows::row6_descending(rows::DIFF2_EDGE0, vector, n - 6) / d;
+    out[n - 2] = rows::row_descending(rows::DIFF2_EDGE1, vector, n - 6) / d;
+    out[n - 1] = rows::row_descending(rows::DIFF2_EDGE0, vector, n - 6) / d;
 }
 
 // The third difference, without normalization by the grid spacing.
-pub fn diff3_unnormalized(level: u32, vector: &[f64], out: &mut [f64]) -> Answer
-    ensures { (number_of result ≡ fault_of level (both_fit level (length vector.now) (length out.old)))
-        × (out.new ≡ left_by result (diff3_of vector.now) out.old) }
+pub fn diff3_unnormalized(level: u32, vector: &[f64], out: &mut [f64]) -> Result<(), Refusal>
+    ensures refused { number_of result ≡ fault_of level (all_fit level (length vector.now ∷ length out.old ∷ [])) }
+    ensures left { out.new ≡ left_by result (diff3_of vector.now) out.old }
 {
-    let answer = checked_both(level, vector.len(), out.len());
-    match answer {
-        Answer::Done => {
-            diff3_rows(vector, out);
-            Answer::Done
-        }
-        Answer::RefusedLevel => Answer::RefusedLevel,
-        Answer::RefusedLength => Answer::RefusedLength,
-    }
+    checked_lengths(level, &[vector.len(), out.len()])?;
+    diff3_rows(vector, out);
+    Ok(())
 }
 
 fn diff3_rows(vector: &[f64], out: &mut [f64])
@@ -115,41 +94,38 @@ fn diff3_run(vector: &[f64], out: &mut [f64], lo: usize, hi: usize, back: usize)
     ensures { (length out.new ≡ length out.old)
         × Grown 0 lo hi (λ E. diff3_at vector.now) out.old out.new }
 {
-    let mut i = lo;
-    while i < hi {
-        out[i] = rows::row7_hollow(rows::DIFF3, vector, i - back) / 8.0;
-        i += 1;
+    for i in lo..hi {
+        out[i] = rows::row_hollow(rows::DIFF3, vector, i - back) / 8.0;
     }
 }
 
 // Sets the left Neumann boundary value, by the row of `diff` at point 0.
-pub fn set_left_neumann_bc(vector: &mut [f64]) -> Answer
-    ensures { (number_of result ≡ short_of 5 (length vector.old))
-        × (vector.new ≡ left_by result (with_left_neumann vector.old) vector.old) }
+pub fn set_left_neumann_bc(vector: &mut [f64]) -> Result<(), Refusal>
+    ensures refused { number_of result ≡ short_of 5 (length vector.old) }
+    ensures left { vector.new ≡ left_by result (with_left_neumann vector.old) vector.old }
 {
     if vector.len() < 5 {
-        return Answer::RefusedLength;
+        return Err(Refusal::Length);
     }
-    let value = rows::row4(rows::NEUMANN, vector, 1) / 25.0;
+    let value = rows::row(rows::NEUMANN, vector, 1) / 25.0;
     vector[0] = value;
-    Answer::Done
+    Ok(())
 }
 
 // Kreiss-Oliger dissipation with a radial correction c: half becomes c × D u, and out D(c × D u), scaled.
-pub fn dissipation(level: u32, vector: &[f64], half: &mut [f64], out: &mut [f64]) -> Answer
-    ensures { (number_of result ≡ fault_of level (all_fit level (length vector.now) (length half.old) (length out.old)))
-        × (half.new ≡ left_by result (half_dissipation_of level vector.now) half.old)
-        × (out.new ≡ left_by result (dissipation_of level vector.now) out.old) }
+pub fn dissipation(
+    level: u32,
+    vector: &[f64],
+    half: &mut [f64],
+    out: &mut [f64],
+) -> Result<(), Refusal>
+    ensures refused { number_of result ≡ fault_of level (all_fit level (length vector.now ∷ length half.old ∷ length out.old ∷ [])) }
+    ensures half_left { half.new ≡ left_by result (half_dissipation_of level vector.now) half.old }
+    ensures left { out.new ≡ left_by result (dissipation_of level vector.now) out.old }
 {
-    let answer = checked_three(level, vector.len(), half.len(), out.len());
-    match answer {
-        Answer::Done => {
-            dissipation_passes(level, vector, half, out);
-            Answer::Done
-        }
-        Answer::RefusedLevel => Answer::RefusedLevel,
-        Answer::RefusedLength => Answer::RefusedLength,
-    }
+    checked_lengths(level, &[vector.len(), half.len(), out.len()])?;
+    dissipation_passes(level, vector, half, out);
+    Ok(())
 }
 
 fn dissipation_passes(level: u32, vector: &[f64], half: &mut [f64], out: &mut [f64])
@@ -174,11 +150,8 @@ fn correct(level: u32, values: &mut [f64])
     requires { length values.old ≡ points_of level }
     ensures { values.new ≡ corrected_by level values.old }
 {
-    let n = values.len();
-    let mut i = 0;
-    while i < n {
-        values[i] = radial_correction(point(level, i)) * values[i];
-        i += 1;
+    for (i, value) in values.iter_mut().enumerate() {
+        *value = radial_correction(point(level, i)) * *value;
     }
 }
 
@@ -186,10 +159,7 @@ fn correct(level: u32, values: &mut [f64])
 fn scale(factor: f64, values: &mut [f64])
     ensures { values.new ≡ scaled_by factor values.old }
 {
-    let n = values.len();
-    let mut i = 0;
-    while i < n {
-        values[i] = factor * values[i];
-        i += 1;
+    for value in values.iter_mut() {
+        *value = factor * *value;
     }
 }

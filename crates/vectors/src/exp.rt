@@ -1,79 +1,64 @@
 // exp of document 01 ("exp, ours"): specs/Exp.antt writes it down.
-ghost use Rattle.std.specs.Prelude.{◌≡◌, true, false, map, ◌<◌, ◌≤◌, length};
-ghost use Rattle.std.specs.Float.{fin};
-ghost use Rattle.std.specs.Float.Ieee.{minus};
+ghost use Rattle.std.specs.Prelude.{◌≡◌, map, ◌<◌, All};
+ghost use Rattle.std.specs.Bool.{OnTrue};
 ghost use Rattle.vectors.specs.Exp.{exp_of, fraction_of};
-ghost use Rattle.vectors.specs.ExpInside.{Inside, InsideTo};
-ghost use Rattle.vectors.specs.ExpTable.{mantissas};
+ghost use Rattle.vectors.specs.ExpInside.{Inside};
 
-use crate::answer::and_also;
+use crate::bits::power_of_two;
 
 pub fn exp(x: f64) -> f64
     ensures { result ≡ exp_of x }
 {
-    let table = MANTISSAS;
-    exp_by(&table, x)
+    if x.is_nan() {
+        return x;
+    }
+    if x >= 709.0 {
+        return f64::INFINITY;
+    }
+    if x <= -708.0 {
+        return 0.0;
+    }
+    exp_inside(x)
 }
 
-// exp of each number, in place. The table is made once: a constant is written out anew at each use.
+// exp of each number, in place.
 // Where all are between the limits no number is tested on its way, and the compiler takes two at a time.
 pub fn exp_all(values: &mut [f64])
     ensures { values.new ≡ map exp_of values.old }
 {
-    let table = MANTISSAS;
     if all_inside(values) {
-        each_inside(&table, values);
+        each(values, exp_inside);
     } else {
-        each(&table, values);
+        each(values, exp);
     }
 }
 
-// Whether all are between the limits.
+// Whether all are between the limits, with no branch on the way.
 fn all_inside(values: &[f64]) -> bool
-    ensures { result ≡ true → InsideTo (length values.now) values.now }
+    ensures { OnTrue result (All Inside values.now) }
 {
-    let len = values.len();
     let mut all = true;
-    let mut k = 0usize;
-    while k < len {
-        all = and_also(all, inside(values[k]));
-        k += 1usize;
+    for x in values {
+        all &= inside(*x);
     }
     all
 }
 
 // Whether x is, with no branch. A NaN is not.
 fn inside(x: f64) -> bool
-    ensures { result ≡ true → Inside x }
+    ensures { OnTrue result (Inside x) }
 {
-    and_also(x < 709.0, x > -708.0)
+    (x < 709.0) & (x > -708.0)
 }
 
-// exp of each number, all of them between the limits.
-fn each_inside(table: &[u64; 256], values: &mut [f64])
-    requires { (table.now ≡ mantissas) × InsideTo (length values.old) values.old }
+// exp of each number, by a function that gives it for all of them.
+fn each<F: Fn(f64) -> f64>(values: &mut [f64], exp: F)
+    requires callable { All (F.pre exp) values.old }
+    requires gives { (x y : _) → F.post exp x y → y ≡ exp_of x }
     ensures { values.new ≡ map exp_of values.old }
 {
-    let len = values.len();
-    let mut k = 0usize;
-    while k < len {
-        let x = values[k];
-        values[k] = exp_inside(table, x);
-        k += 1usize;
-    }
-}
-
-// exp of each number.
-fn each(table: &[u64; 256], values: &mut [f64])
-    requires { table.now ≡ mantissas }
-    ensures { values.new ≡ map exp_of values.old }
-{
-    let len = values.len();
-    let mut i = 0usize;
-    while i < len {
-        let x = values[i];
-        values[i] = exp_by(table, x);
-        i += 1usize;
+    for x in values.iter_mut() {
+        *x = exp(*x);
     }
 }
 
@@ -91,54 +76,29 @@ const SHIFT: f64 = 6755399441055744.0;
 // SHIFT's bits, less 2^18. The sum is a whole number from 2^52 to 2^53, so its bits go up with it one by one: less this they are N + 2^18, which is above 0.
 const SHIFT_BELOW: u64 = 0x4337FFFFFFFC0000;
 
-// exp by the table lent.
-fn exp_by(table: &[u64; 256], x: f64) -> f64
-    requires { table.now ≡ mantissas }
-    ensures { result ≡ exp_of x }
-{
-    if x != x {
-        return x;
-    }
-    if x >= 709.0 {
-        return 1.0 / 0.0;
-    }
-    if x <= -708.0 {
-        return 0.0;
-    }
-    exp_inside(table, x)
-}
-
-// The same between the limits, which asks for no test.
-fn exp_inside(table: &[u64; 256], x: f64) -> f64
-    requires { (table.now ≡ mantissas) × Inside x }
+// exp between the limits, which asks for no test.
+fn exp_inside(x: f64) -> f64
+    requires { Inside x }
     ensures { result ≡ exp_of x }
 {
     let shifted = x * (256.0 * A) + SHIFT;
     let n = shifted - SHIFT;
     let r = (x - n * (B / 256.0)) - n * (C / 256.0);
     let p = 1.0 + r * (1.0 + r * (1.0 / 2.0 + r * (1.0 / 6.0 + r * (1.0 / 24.0))));
-    let i = f64::to_bits(shifted) - SHIFT_BELOW;
-    (fraction(table, (i % 256) as usize) * p) * power_of_two(i / 256)
+    let i = shifted.to_bits() - SHIFT_BELOW;
+    (fraction((i % 256) as usize) * p) * power_of_two(i / 256)
 }
 
 // T_j = m / 2^52, for j below 256. m is at least 2^52 and below 2^53, so it is T_j's bits but for the exponent's field, which is 1022 more.
-fn fraction(table: &[u64; 256], j: usize) -> f64
-    requires { (table.now ≡ mantissas) × (j < 256) }
+fn fraction(j: usize) -> f64
+    requires { j < 256 }
     ensures { result ≡ fraction_of j }
 {
-    f64::from_bits(table[j] + 0x3FE0000000000000)
-}
-
-// 2^(k - 1024): the exponent's field of the bits is k - 1, the others 0.
-fn power_of_two(k: u64) -> f64
-    requires { (2 ≤ k) × (k ≤ 2047) }
-    ensures { result ≡ fin false 1 (minus k 1024) }
-{
-    f64::from_bits((k - 1) * 4503599627370496)
+    f64::from_bits(MANTISSAS[j] + 0x3FE0000000000000)
 }
 
 // Entry j is the largest m with m^256 <= 2^(j + 52 × 256).
-const MANTISSAS: [u64; 256] = [
+static MANTISSAS: [u64; 256] = [
     0x10000000000000,
     0x100B1AFA5ABCBE,
     0x10163DA9FB3335,

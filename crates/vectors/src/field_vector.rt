@@ -1,9 +1,8 @@
 // From domain/field_vector.rs: the powers that `powi` takes, `min`, and the `position` that is asked of a vector.
 ghost use Rattle.std.specs.Prelude.{◌≡◌};
 ghost use Rattle.vectors.specs.Powers.{square_of, fourth_power_of, reciprocal_of};
-ghost use Rattle.vectors.specs.Sign.{sign_of};
 ghost use Rattle.vectors.specs.TotalOrder.{lesser_of, minimum_of};
-ghost use Rattle.vectors.specs.Position.{position_of, first_at_or_below};
+ghost use Rattle.vectors.specs.Position.{first_at_or_below};
 
 // x².
 pub fn square(x: f64) -> f64
@@ -31,70 +30,31 @@ pub fn reciprocal(x: f64) -> f64
 pub fn min(values: &[f64]) -> f64
     ensures { result ≡ minimum_of values.now }
 {
-    let mut least = 0.0 / 0.0;
-    let mut i = 0;
-    while i < values.len() {
-        least = lesser(least, values[i]);
-        i += 1;
-    }
-    least
+    values.iter().copied().fold(f64::NAN, lesser)
 }
 
 // x where it is below m, else m. Two comparisons settle it unless m is a zero or one of them is a NaN.
 fn lesser(m: f64, x: f64) -> f64
     ensures { result ≡ lesser_of m x }
 {
-    if m <= x {
-        if m != 0.0 {
-            return m;
-        }
-        if negative(x) {
-            if negative(m) {
-                return m;
-            }
-            return x;
-        }
+    if m <= x && m != 0.0 {
         return m;
     }
     if x < m {
         return x;
     }
-    if m != m {
+    if m.is_nan() {
         return x;
     }
-    m
-}
-
-// Whether x has its sign set, as -0 has; a NaN has none.
-fn negative(x: f64) -> bool
-    ensures { result ≡ sign_of x }
-{
-    if x < 0.0 {
-        return true;
+    if x.is_nan() {
+        return m;
     }
-    if x == 0.0 {
-        return 1.0 / x < 0.0;
-    }
-    false
-}
-
-// The index of an element, or that there is none.
-#[derive(Clone, Copy)]
-pub enum Position {
-    At(usize),
-    Nowhere,
+    if x.total_cmp(&m).is_lt() { x } else { m }
 }
 
 // The first index whose value is <= bound; no NaN is.
-pub fn position_at_or_below(values: &[f64], bound: f64) -> Position
-    ensures { position_of result ≡ first_at_or_below bound values.now }
+pub fn position_at_or_below(values: &[f64], bound: f64) -> Option<usize>
+    ensures { result ≡ first_at_or_below bound values.now }
 {
-    let mut index = 0;
-    while index < values.len() {
-        if values[index] <= bound {
-            return Position::At(index);
-        }
-        index += 1;
-    }
-    Position::Nowhere
+    values.iter().position(|x| *x <= bound)
 }

@@ -1,8 +1,11 @@
 // The rows of weights of diff.rs, and their sums.
-ghost use Rattle.std.specs.Prelude.{◌≡◌, length, ◌+◌, ◌≤◌, ◌<◌};
+ghost use Rattle.std.specs.Prelude.{◌≡◌, List, map, ℤ, Float};
 ghost use Rattle.std.specs.Float.{binary64};
 ghost use Rattle.std.specs.Float.Ieee.{add};
-ghost use Rattle.vectors.specs.RowSums.{product, sum4, sum5, sum5hollow, sum6, sum6descending, sum7hollow};
+ghost use Rattle.std.specs.Iterator.{IsFinite, AlwaysYields};
+ghost use Rattle.std.specs.List.{fold};
+ghost use Rattle.vectors.specs.RowSums.{times, row_sum, hollow_sum, descending_sum};
+ghost use Rattle.vectors.specs.Stencil.{total};
 
 use crate::answer::fits;
 
@@ -30,138 +33,59 @@ pub const DIFF3: [i16; 7] = [1, -8, 13, 0, -13, 8, -1];
 // The row of `set_left_neumann_bc`: DIFF_LEFT0 without its first weight.
 pub const NEUMANN: [i16; 4] = [48, -36, 16, -3];
 
-// The first two weights times the numbers at i and j, summed.
-fn first_two(w: &[i16], v: &[f64], i: usize, j: usize) -> f64
-    requires { (1 < length w.now) × (i < length v.now) × (j < length v.now) }
-    ensures { result ≡ add binary64 (product w.now 0 v.now i) (product w.now 1 v.now j) }
+// The products of weights and numbers summed: the first, plus the next, and so on; NaN where there is none.
+fn total<'a, I: Iterator<Item = (&'a i16, &'a f64)> + Drop>(pairs: I) -> f64
+    requires can { I.can_next pairs }
+    requires ends { IsFinite (I.remaining pairs) }
+    ensures { (all : List (ℤ × Float)) → AlwaysYields I.next_gives (λ p. (p.0.now, p.1.now)) pairs all → result ≡ total (map times all) }
 {
-    (w[0] as f64) * v[i] + (w[1] as f64) * v[j]
+    pairs
+        .map(|(weight, number)| (*weight as f64) * *number)
+        .reduce(|sum, product| sum + product)
+        .unwrap_or(f64::NAN)
 }
 
-// The sum with two products more, of weights a and b.
-fn two_more(sum: f64, w: &[i16], a: usize, b: usize, v: &[f64], i: usize, j: usize) -> f64
-    requires { (a < length w.now) × (b < length w.now) × (i < length v.now) × (j < length v.now) }
-    ensures { result ≡ add binary64 (add binary64 sum (product w.now a v.now i)) (product w.now b v.now j) }
+// The products added to the sum, one after the other.
+fn plus<'a, I: Iterator<Item = (&'a i16, &'a f64)> + Drop>(sum: f64, pairs: I) -> f64
+    requires can { I.can_next pairs }
+    requires ends { IsFinite (I.remaining pairs) }
+    ensures { (all : List (ℤ × Float)) → AlwaysYields I.next_gives (λ p. (p.0.now, p.1.now)) pairs all → result ≡ fold (add binary64) sum (map times all) }
 {
-    sum + (w[a] as f64) * v[i] + (w[b] as f64) * v[j]
+    pairs.fold(sum, |sum, (weight, number)| {
+        sum + (*weight as f64) * *number
+    })
 }
 
-// And with one more.
-fn one_more(sum: f64, w: &[i16], a: usize, v: &[f64], i: usize) -> f64
-    requires { (a < length w.now) × (i < length v.now) }
-    ensures { result ≡ add binary64 sum (product w.now a v.now i) }
+// The sum of a row over the numbers from k on; NaN where there are fewer than weights.
+pub fn row<const N: usize>(w: [i16; N], v: &[f64], k: usize) -> f64
+    ensures { result ≡ row_sum w.entry v.now k }
 {
-    sum + (w[a] as f64) * v[i]
-}
-
-// The sum of a row of four over the numbers from k on; NaN where there are fewer than four.
-pub fn row4(w: [i16; 4], v: &[f64], k: usize) -> f64
-    ensures { result ≡ sum4 w v.now k }
-{
-    if fits(v.len(), k, 4) {
-        return row4_inside(w, v, k);
+    if fits(v.len(), k, N) {
+        return total(w.iter().zip(&v[k..k + N]));
     }
-    0.0 / 0.0
+    f64::NAN
 }
 
-fn row4_inside(w: [i16; 4], v: &[f64], k: usize) -> f64
-    requires { k + 4 ≤ length v.now }
-    ensures { result ≡ sum4 w v.now k }
+// The same without the middle product of an odd number of them.
+pub fn row_hollow<const N: usize>(w: [i16; N], v: &[f64], k: usize) -> f64
+    ensures { result ≡ hollow_sum w.entry v.now k }
 {
-    let sum = first_two(&w, v, k, k + 1);
-    two_more(sum, &w, 2, 3, v, k + 2, k + 3)
-}
-
-// The same for a row of five.
-pub fn row5(w: [i16; 5], v: &[f64], k: usize) -> f64
-    ensures { result ≡ sum5 w v.now k }
-{
-    if fits(v.len(), k, 5) {
-        return row5_inside(w, v, k);
+    if fits(v.len(), k, N) {
+        let (w, v) = (&w[..], &v[k..k + N]);
+        let half = N / 2;
+        let left = w[..half].iter().zip(&v[..half]);
+        let right = w[N - half..].iter().zip(&v[N - half..]);
+        return plus(total(left), right);
     }
-    0.0 / 0.0
+    f64::NAN
 }
 
-fn row5_inside(w: [i16; 5], v: &[f64], k: usize) -> f64
-    requires { k + 5 ≤ length v.now }
-    ensures { result ≡ sum5 w v.now k }
+// The same to the left: the first weight is that of the last number.
+pub fn row_descending<const N: usize>(w: [i16; N], v: &[f64], k: usize) -> f64
+    ensures { result ≡ descending_sum w.entry v.now k }
 {
-    let sum = first_two(&w, v, k, k + 1);
-    let sum = two_more(sum, &w, 2, 3, v, k + 2, k + 3);
-    one_more(sum, &w, 4, v, k + 4)
-}
-
-// The same without the middle product, where that weight is 0.
-pub fn row5_hollow(w: [i16; 5], v: &[f64], k: usize) -> f64
-    ensures { result ≡ sum5hollow w v.now k }
-{
-    if fits(v.len(), k, 5) {
-        return row5_hollow_inside(w, v, k);
+    if fits(v.len(), k, N) {
+        return total(w.iter().zip(v[k..k + N].iter().rev()));
     }
-    0.0 / 0.0
-}
-
-fn row5_hollow_inside(w: [i16; 5], v: &[f64], k: usize) -> f64
-    requires { k + 5 ≤ length v.now }
-    ensures { result ≡ sum5hollow w v.now k }
-{
-    let sum = first_two(&w, v, k, k + 1);
-    two_more(sum, &w, 3, 4, v, k + 3, k + 4)
-}
-
-// The same for a row of six.
-pub fn row6(w: [i16; 6], v: &[f64], k: usize) -> f64
-    ensures { result ≡ sum6 w v.now k }
-{
-    if fits(v.len(), k, 6) {
-        return row6_inside(w, v, k);
-    }
-    0.0 / 0.0
-}
-
-fn row6_inside(w: [i16; 6], v: &[f64], k: usize) -> f64
-    requires { k + 6 ≤ length v.now }
-    ensures { result ≡ sum6 w v.now k }
-{
-    let sum = first_two(&w, v, k, k + 1);
-    let sum = two_more(sum, &w, 2, 3, v, k + 2, k + 3);
-    two_more(sum, &w, 4, 5, v, k + 4, k + 5)
-}
-
-// The same to the left: the first weight is that of v[k + 5].
-pub fn row6_descending(w: [i16; 6], v: &[f64], k: usize) -> f64
-    ensures { result ≡ sum6descending w v.now k }
-{
-    if fits(v.len(), k, 6) {
-        return row6_descending_inside(w, v, k);
-    }
-    0.0 / 0.0
-}
-
-fn row6_descending_inside(w: [i16; 6], v: &[f64], k: usize) -> f64
-    requires { k + 6 ≤ length v.now }
-    ensures { result ≡ sum6descending w v.now k }
-{
-    let sum = first_two(&w, v, k + 5, k + 4);
-    let sum = two_more(sum, &w, 2, 3, v, k + 3, k + 2);
-    two_more(sum, &w, 4, 5, v, k + 1, k)
-}
-
-// The same for a row of seven without the middle product.
-pub fn row7_hollow(w: [i16; 7], v: &[f64], k: usize) -> f64
-    ensures { result ≡ sum7hollow w v.now k }
-{
-    if fits(v.len(), k, 7) {
-        return row7_hollow_inside(w, v, k);
-    }
-    0.0 / 0.0
-}
-
-fn row7_hollow_inside(w: [i16; 7], v: &[f64], k: usize) -> f64
-    requires { k + 7 ≤ length v.now }
-    ensures { result ≡ sum7hollow w v.now k }
-{
-    let sum = first_two(&w, v, k, k + 1);
-    let sum = two_more(sum, &w, 2, 4, v, k + 2, k + 4);
-    two_more(sum, &w, 5, 6, v, k + 5, k + 6)
+    f64::NAN
 }

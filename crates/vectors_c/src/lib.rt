@@ -1,14 +1,12 @@
 // Functions of the crate vectors for C or Rust to link. A slice is a pointer, then a length.
 #![tactic(auto)]
 
-ghost use Rattle.std.specs.Prelude.{◌≡◌, map, length};
-ghost use Rattle.vectors.specs.Answer.{number_of, left_at};
+ghost use Rattle.std.specs.Prelude.{◌≡◌, [], ◌∷◌, map, length};
+ghost use Rattle.vectors.specs.Answer.{left_at};
 ghost use Rattle.vectors.specs.Exp.{exp_of};
-ghost use Rattle.vectors.specs.Fault.{fault_of, both_fit};
+ghost use Rattle.vectors.specs.Fault.{fault_of, all_fit};
 ghost use Rattle.vectors.specs.Grid.{spacing_of};
 ghost use Rattle.vectors.specs.Stencil.{diff_of};
-
-use vectors::answer::Answer;
 
 // exp of each value, in place.
 #[unsafe(no_mangle)]
@@ -21,19 +19,11 @@ pub extern "C" fn vectors_exp_all(values: &mut [f64])
 // The first difference of `vector` into `out`; answers 0, or 5 or 11 where it refuses.
 #[unsafe(no_mangle)]
 pub extern "C" fn vectors_diff(level: u32, vector: &[f64], out: &mut [f64]) -> u32
-    ensures { (result ≡ fault_of level (both_fit level (length vector.now) (length out.old)))
-        × (out.new ≡ left_at result (diff_of (spacing_of level) vector.now) out.old) }
+    ensures refused { result ≡ fault_of level (all_fit level (length vector.now ∷ length out.old ∷ [])) }
+    ensures left { out.new ≡ left_at result (diff_of (spacing_of level) vector.now) out.old }
 {
-    number_of(vectors::diff::diff(level, vector, out))
-}
-
-// 01's number of a refusal, 0 where there is none.
-fn number_of(answer: Answer) -> u32
-    ensures { result ≡ number_of answer }
-{
-    match answer {
-        Answer::Done => 0,
-        Answer::RefusedLevel => 5,
-        Answer::RefusedLength => 11,
+    match vectors::diff::diff(level, vector, out) {
+        Ok(()) => 0,
+        Err(refusal) => refusal.into(),
     }
 }

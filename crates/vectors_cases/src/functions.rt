@@ -1,39 +1,11 @@
-// exp, tan and the powers, at chosen arguments and over chunks of 256 arguments.
-use crate::text;
-use cases::arguments;
-use cases::digest::with;
+// exp, tan and the powers, at chosen arguments and over lists of 256 arguments.
+use cases::arguments::{Range, list};
+use cases::digest::digest;
 use std::io;
 use vectors::bits::{bits_of, of_bits};
-
-const EXP: u32 = 0;
-
-const TAN: u32 = 1;
-
-const SQUARE: u32 = 2;
-
-const FOURTH: u32 = 3;
-
-const RECIPROCAL: u32 = 4;
-
-pub const IDENTITY: u32 = 5;
-
-// tan at pi/2, as rounded, times the argument.
-pub const TAN_OF_QUARTERS: u32 = 6;
-
-// The ranges of arguments below this are those of cases::arguments; this is SPECIAL, and the next TIES.
-const SPECIALS: u32 = 5;
-
-// The function, the range of its arguments and how many lines, in the order of the lines in `item`.
-#[rattlefmt::skip]
-const ROWS: [u32; 15] = [
-    0_5_036, 0_0_016,
-    1_5_036, 1_0_004,
-    2_5_036, 2_0_004,
-    3_5_036, 3_0_004,
-    4_5_036, 4_0_004,
-    0_1_016, 0_2_016, 1_3_004, 1_4_004,
-    0_6_120,
-];
+use vectors::exp::exp;
+use vectors::field_vector::{fourth_power, reciprocal, square};
+use vectors::tan::tan;
 
 // As in oracle/arguments.rs.
 #[rattlefmt::skip]
@@ -58,80 +30,62 @@ const TIES: [u64; 40] = [
     0x4086157E15E9BE42, 0xC086157E15E9BE42, 0x40861E2DB3A617BF, 0xC0861E2DB3A617BF,
 ];
 
-// A tie, and the floats next to it.
-const BESIDE: [u64; 3] = [0, 0xFFFFFFFFFFFFFFFF, 1];
+pub fn all(rt: &impl Print) -> io::Result<()> {
+    specials(rt, "exp", exp)?;
+    chunks(rt, "exp patterns", exp, Range::Patterns, 16)?;
+    specials(rt, "tan", tan)?;
+    chunks(rt, "tan patterns", tan, Range::Patterns, 4)?;
+    specials(rt, "square", square)?;
+    chunks(rt, "square patterns", square, Range::Patterns, 4)?;
+    specials(rt, "fourth", fourth_power)?;
+    chunks(rt, "fourth patterns", fourth_power, Range::Patterns, 4)?;
+    specials(rt, "reciprocal", reciprocal)?;
+    chunks(rt, "reciprocal patterns", reciprocal, Range::Patterns, 4)?;
+    chunks(rt, "exp whole range", exp, Range::Exp, 16)?;
+    chunks(rt, "exp near zero", exp, Range::NearZero, 16)?;
+    chunks(rt, "tan quarter", tan, Range::Quarter, 4)?;
+    chunks(rt, "tan beyond", tan, Range::Ten, 4)?;
+    ties(rt)
+}
 
-pub fn rows(rt: &impl Print) -> io::Result<()> {
-    let table = ROWS;
-    for i in 0..15 {
-        items(rt, i as u64, table[i])?;
+fn specials<F: Fn(f64) -> f64>(rt: &impl Print, name: &str, f: F) -> io::Result<()>
+    requires { F.IsAlwaysCallable f }
+{
+    for b in SPECIAL {
+        let answer = bits_of(f(of_bits(b)));
+        println!(rt; "{name} special {b:016x} {answer:016x}")?;
     }
     Ok(())
 }
 
-fn items(rt: &impl Print, i: u64, row: u32) -> io::Result<()> {
-    let count = row % 1000;
-    let range = row / 1000 % 10;
-    for k in 0..count {
-        let argument = argument_at(range, k as u64);
-        item(rt, i, argument, answer_at(row / 10000, range, argument))?;
+// The digests of the function over 256 arguments for each seed.
+fn chunks<F: Fn(f64) -> f64>(
+    rt: &impl Print,
+    name: &str,
+    f: F,
+    range: Range,
+    seeds: u64,
+) -> io::Result<()>
+    requires { F.IsAlwaysCallable f }
+{
+    let mut values = [0.0; 256];
+    for seed in 1..=seeds {
+        list(range as u32, seed, &mut values);
+        println!(rt; "{name} {seed} {}", digest(&values.map(|x| f(x))))?;
     }
     Ok(())
 }
 
-fn item(rt: &impl Print, i: u64, argument: u64, answer: u64) -> io::Result<()> {
-    text::print(
-        rt,
-        b"exp special $ $\n|exp patterns # #\n|tan special $ $\n|tan patterns # #\n\
-        |square special $ $\n|square patterns # #\n|fourth special $ $\n|fourth patterns # #\n\
-        |reciprocal special $ $\n|reciprocal patterns # #\n|exp whole range # #\n|exp near zero # #\n\
-        |tan quarter # #\n|tan beyond # #\n|exp tie $ $\n",
-        i,
-        &[argument, answer],
-    )
+fn ties(rt: &impl Print) -> io::Result<()> {
+    for b in TIES {
+        tie(rt, b)?;
+        tie(rt, b.wrapping_sub(1))?;
+        tie(rt, b.wrapping_add(1))?;
+    }
+    Ok(())
 }
 
-// The bits of an argument, or the seed of a chunk.
-fn argument_at(range: u32, k: u64) -> u64 {
-    if range < SPECIALS {
-        return k.wrapping_add(1);
-    }
-    if range == SPECIALS {
-        let special = SPECIAL;
-        return special[(k % 36) as usize];
-    }
-    let ties = TIES;
-    let beside = BESIDE;
-    ties[(k / 3 % 40) as usize].wrapping_add(beside[(k % 3) as usize])
-}
-
-// The bits of the answer, or the digest of the answers.
-fn answer_at(function: u32, range: u32, argument: u64) -> u64 {
-    if range < SPECIALS {
-        return chunk(function, range, argument);
-    }
-    bits_of(answer(function, of_bits(argument)))
-}
-
-// The digest of a function over 256 arguments.
-fn chunk(function: u32, range: u32, seed: u64) -> u64 {
-    let mut d = 1;
-    let mut s = seed;
-    for i in 0..256usize {
-        d = with(d, answer(function, arguments::argument(range, s)));
-        s = arguments::after(s);
-    }
-    d
-}
-
-pub fn answer(function: u32, x: f64) -> f64 {
-    match function {
-        EXP => vectors::exp::exp(x),
-        TAN => vectors::tan::tan(x),
-        SQUARE => vectors::field_vector::square(x),
-        FOURTH => vectors::field_vector::fourth_power(x),
-        RECIPROCAL => vectors::field_vector::reciprocal(x),
-        IDENTITY => x,
-        _ => vectors::tan::tan(of_bits(0x3FF921FB54442D18) * x),
-    }
+fn tie(rt: &impl Print, b: u64) -> io::Result<()> {
+    let answer = bits_of(exp(of_bits(b)));
+    println!(rt; "exp tie {b:016x} {answer:016x}")
 }

@@ -7,17 +7,18 @@ mod lists;
 mod memories;
 mod on_vector;
 mod refusals;
-mod text;
 
 use std::io;
 
 fn main(rt: HostRuntime) -> io::Result<()> {
     grid::constants(&rt)?;
     grid::levels(&rt)?;
-    functions::rows(&rt)?;
+    functions::all(&rt)?;
     on_vector::mapped(&rt)?;
-    on_vector::lines(&rt)?;
+    on_vector::levels(&rt)?;
+    on_vector::spikes(&rt)?;
     lists::shorts(&rt)?;
-    refusals::cases(&rt)?;
-    grid::outside(&rt)
+    refusals::all(&rt)?;
+    grid::outside(&rt)?;
+    grid::beyond(&rt)
 }

@@ -1,28 +1,45 @@
 // The memories of a case: they are filled, a part of each is lent to a call, and what it leaves is taken down.
-ghost use Rattle.std.specs.Prelude.{◌≤◌};
-
-use cases::arguments;
+use cases::arguments::{self, Range};
 use cases::digest::digest;
-use vectors::answer::Answer;
+use std::fmt;
+use vectors::answer::Refusal;
 
-pub const DIFF: u32 = 0;
+#[derive(Clone, Copy)]
+pub enum Operation {
+    Diff,
+    Diff2,
+    Diff3,
+    Dissipation,
+    Neumann,
+    ExpAll,
+}
 
-pub const DIFF2: u32 = 1;
+impl fmt::Display for Operation {
+    fn fmt<W: fmt::Write>(&self, f: &mut fmt::Formatter<W>) -> fmt::Result {
+        f.write_str(match self {
+            Operation::Diff => "diff",
+            Operation::Diff2 => "diff2",
+            Operation::Diff3 => "diff3",
+            Operation::Dissipation => "dissipation",
+            Operation::Neumann => "neumann",
+            Operation::ExpAll => "exp all",
+        })
+    }
+}
 
-pub const DIFF3: u32 = 2;
-
-pub const DISSIPATION: u32 = 3;
-
-pub const NEUMANN: u32 = 4;
-
-pub const EXP_ALL: u32 = 5;
+// What the vector holds before a call: a list of a range, or a vector of a kind.
+#[derive(Clone, Copy)]
+pub enum Contents {
+    Units,
+    WholeRange,
+    Kind(u32),
+}
 
 #[derive(Clone, Copy)]
 pub struct Case {
-    pub operation: u32,
+    pub operation: Operation,
     pub level: u32,
-    // The vector's kind, or one of the lists.
-    pub kind: u32,
+    pub contents: Contents,
     // How many numbers of each memory the digests are of.
     pub size: usize,
     // How many numbers of each memory the call gets.
@@ -40,92 +57,74 @@ pub struct Left {
     pub out: u64,
 }
 
-// Kinds that are no vector but a list.
-pub const UNITS: u32 = 64;
-
-pub const WHOLE_RANGE: u32 = 65;
-
 pub fn run(case: Case) -> Left {
     let mut vector = [0.0; 257];
     let mut half = [0.0; 257];
     let mut out = [0.0; 257];
-    fill(case.level, case.kind, &mut vector);
-    arguments::list(5, 9, &mut half);
-    arguments::list(5, 8, &mut out);
+    fill(case.level, case.contents, &mut vector);
+    arguments::list(Range::Unit as u32, 9, &mut half);
+    arguments::list(Range::Unit as u32, 8, &mut out);
     let answer = call_on(case, &mut vector, &mut half, &mut out);
-    let size = case.size;
+    let size = case.size.min(257);
     Left {
         answer: number(answer),
-        vector: of_first(size, &vector),
-        half: of_first(size, &half),
-        out: of_first(size, &out),
+        vector: digest(&vector[..size]),
+        half: digest(&half[..size]),
+        out: digest(&out[..size]),
+    }
+}
+
+fn fill(level: u32, contents: Contents, values: &mut [f64]) {
+    match contents {
+        Contents::Units => arguments::list(Range::Unit as u32, 7, values),
+        Contents::WholeRange => arguments::list(Range::Exp as u32, 101, values),
+        Contents::Kind(kind) => arguments::vector(level, kind, values),
     }
 }
 
 // The call on the parts that it gets.
-fn call_on(case: Case, vector: &mut [f64], half: &mut [f64], out: &mut [f64]) -> Answer {
-    let length = least(case.length, vector.len());
-    let middle = least(case.half, half.len());
-    let room = least(case.room, out.len());
+fn call_on(
+    case: Case,
+    vector: &mut [f64],
+    half: &mut [f64],
+    out: &mut [f64],
+) -> Result<(), Refusal> {
+    let length = case.length.min(vector.len());
+    let middle = case.half.min(half.len());
+    let room = case.room.min(out.len());
     call(
         case.operation,
         case.level,
-        &mut vector[0..length],
-        &mut half[0..middle],
-        &mut out[0..room],
+        &mut vector[..length],
+        &mut half[..middle],
+        &mut out[..room],
     )
 }
 
-// The digest of the first numbers of a memory.
-fn of_first(size: usize, memory: &[f64]) -> u64 {
-    if size <= memory.len() {
-        return digest(&memory[0..size]);
-    }
-    0
-}
-
-pub fn least(a: usize, b: usize) -> usize
-    ensures { result ≤ b }
-{
-    if a < b {
-        return a;
-    }
-    b
-}
-
-fn fill(level: u32, kind: u32, values: &mut [f64]) {
-    match kind {
-        UNITS => arguments::list(5, 7, values),
-        WHOLE_RANGE => arguments::list(1, 101, values),
-        _ => arguments::vector(level, kind, values),
-    }
-}
-
 fn call(
-    operation: u32,
+    operation: Operation,
     level: u32,
     vector: &mut [f64],
     half: &mut [f64],
     out: &mut [f64],
-) -> Answer {
+) -> Result<(), Refusal> {
     match operation {
-        DIFF => vectors::diff::diff(level, vector, out),
-        DIFF2 => vectors::diff::diff2(level, vector, out),
-        DIFF3 => vectors::diff::diff3_unnormalized(level, vector, out),
-        DISSIPATION => vectors::diff::dissipation(level, vector, half, out),
-        NEUMANN => vectors::diff::set_left_neumann_bc(vector),
-        _ => {
+        Operation::Diff => vectors::diff::diff(level, vector, out),
+        Operation::Diff2 => vectors::diff::diff2(level, vector, out),
+        Operation::Diff3 => vectors::diff::diff3_unnormalized(level, vector, out),
+        Operation::Dissipation => vectors::diff::dissipation(level, vector, half, out),
+        Operation::Neumann => vectors::diff::set_left_neumann_bc(vector),
+        Operation::ExpAll => {
             vectors::exp::exp_all(vector);
-            Answer::Done
+            Ok(())
         }
     }
 }
 
 // 01's number of a refusal, 0 where there is none.
-fn number(answer: Answer) -> u64 {
+fn number(answer: Result<(), Refusal>) -> u64 {
     match answer {
-        Answer::Done => 0,
-        Answer::RefusedLevel => 5,
-        Answer::RefusedLength => 11,
+        Ok(()) => 0,
+        Err(refusal) => u32::from(refusal) as u64,
     }
 }

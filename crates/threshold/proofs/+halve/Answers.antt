@@ -1,8 +1,11 @@
 -- `threshold::halve` meets its contract.
-use Rattle.std.proofs.Common.{sym, refl, ap, ◌∙◌, rules}
+use Rattle.std.proofs.Common.{◌≡◌, refl, rules, arith}
+use Rattle.std.proofs.lemmas.Grind.{common_steps}
 use Rattle.run.specs.Answers.{ran_of}
+use Rattle.run.specs.Refusal.{number_of}
 use Rattle.threshold.proofs.HalvingsMade.{halved_none, halved_adjacent, halved_stopped, halved_further}
-use Rattle.threshold.specs.Answers.{side_is}
+use Rattle.threshold.specs.Halving.{times_out, collapses, neither, refused_run}
+use Rattle.threshold.specs.Search.{side_of}
 use Rattle.threshold.proofs.Halves.{positive}
 use Rattle.threshold.proofs.+halve.Goals as goal
 
@@ -16,30 +19,30 @@ returns-then-high-low-eq1 t c =
     let a = c.args in
     halved_adjacent a.runs.unit a.runs.settings a.low a.high a.left a.made a.runs.budget a.state.now a.work.now _ (positive c.if-left-eq0.false) c.if-high-low-eq1.true c.stopped-then-high-low-eq1.ensures
 
-pub returns-in-Timeout : goal.returns-in-Timeout
-returns-in-Timeout t c =
+pub returns-in-Ok-Timeout : goal.returns-in-Ok-Timeout
+returns-in-Ok-Timeout t c =
     let a = c.args in
+    let told : times_out ≡ side_of (ran_of c.run_at.result) = grind (arith, common_steps) in
     halved_further a.runs.unit a.runs.settings a.low a.high a.left a.made a.runs.budget a.state.now a.work.now (positive c.if-left-eq0.false) c.if-high-low-eq1.false
-    (ran_of c.run_at-ran.result) _ _ c.run_at-ran.ensures _ (ap side_is (sym c.in-Timeout.is) ∙ c.side_of-side.ensures)
-    (search rules) (search rules) _ _ (λ go. refl) _ _ _ c.halve.ensures
+    (ran_of c.run_at.result) _ _ c.run_at.ensures _ told (search rules) (search rules) _ _ (λ go. refl) _ _ _ c.halve.ensures
 
-pub returns-in-Collapse : goal.returns-in-Collapse
-returns-in-Collapse t c =
+pub returns-in-Ok-Collapse : goal.returns-in-Ok-Collapse
+returns-in-Ok-Collapse t c =
     let a = c.args in
+    let told : collapses ≡ side_of (ran_of c.run_at.result) = grind (arith, common_steps) in
     halved_further a.runs.unit a.runs.settings a.low a.high a.left a.made a.runs.budget a.state.now a.work.now (positive c.if-left-eq0.false) c.if-high-low-eq1.false
-    (ran_of c.run_at-ran.result) _ _ c.run_at-ran.ensures _ (ap side_is (sym c.in-Collapse.is) ∙ c.side_of-side.ensures)
-    (search rules) (search rules) _ _ (λ go. refl) _ _ _ c.halve-in-Collapse.ensures
+    (ran_of c.run_at.result) _ _ c.run_at.ensures _ told (search rules) (search rules) _ _ (λ go. refl) _ _ _ c.halve-in-Ok-Collapse.ensures
 
-pub returns-in-Neither : goal.returns-in-Neither
-returns-in-Neither t c =
+pub returns-in-Ok-Neither : goal.returns-in-Ok-Neither
+returns-in-Ok-Neither t c =
     let a = c.args in
+    let told : neither ≡ side_of (ran_of c.run_at.result) = grind (arith, common_steps) in
     halved_stopped a.runs.unit a.runs.settings a.low a.high a.left a.made a.runs.budget a.state.now a.work.now (positive c.if-left-eq0.false) c.if-high-low-eq1.false
-    (ran_of c.run_at-ran.result) _ _ c.run_at-ran.ensures _ (ap side_is (sym c.in-Neither.is) ∙ c.side_of-side.ensures)
-    _ c.stopped-in-Neither.ensures
+    (ran_of c.run_at.result) _ _ c.run_at.ensures _ told _ c.stopped-in-Ok-Neither.ensures
 
-pub returns-in-Refused : goal.returns-in-Refused
-returns-in-Refused t c =
+pub returns-in-Err : goal.returns-in-Err
+returns-in-Err t c =
     let a = c.args in
+    let told : refused_run (number_of c.in-Err.refusal) ≡ side_of (ran_of c.run_at.result) = grind (arith, common_steps) in
     halved_stopped a.runs.unit a.runs.settings a.low a.high a.left a.made a.runs.budget a.state.now a.work.now (positive c.if-left-eq0.false) c.if-high-low-eq1.false
-    (ran_of c.run_at-ran.result) _ _ c.run_at-ran.ensures _ (ap side_is (sym c.in-Refused.is) ∙ c.side_of-side.ensures)
-    _ c.stopped-in-Refused.ensures
+    (ran_of c.run_at.result) _ _ c.run_at.ensures _ told _ c.stopped-in-Err.ensures

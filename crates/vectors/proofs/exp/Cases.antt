@@ -5,19 +5,12 @@ use Prim.Native.Nat.{ℕ, ◌+◌, ◌-◌, ◌*◌, ◌/◌, ◌%◌, ◌^◌}
 use native.Mathlib.Omega.{arith}
 use lib.Dec.{T}
 use lib.IntN.{pos}
-use lib.Ieee.{Float, nan, inf, fin, binary64, le, ne, is_nan, add, sub, mul, of_int, of_bits, minus, to_bits}
-use lib.Ieee.Compare.{differs_from_itself}
+use lib.Ieee.{Float, nan, inf, fin, binary64, le, is_nan, add, sub, mul, of_int, of_bits, minus, to_bits}
 use Rattle.vectors.specs.Exp.{exp_of, scaled_series, nearest_whole, multiple_of, fraction_of, series, reduced_argument, remainder256, quotient256}
 use Rattle.vectors.proofs.Floats.{whole_value, value_no_nan, whole_bits}
 use Rattle.vectors.proofs.exp.Binade.{shift_below}
 use Rattle.vectors.proofs.exp.Shift.{shift, Shifted}
 use Rattle.vectors.proofs.exp.Range.{scale}
-
-not_nan : (x : Float) → ne x x ≡ false → is_nan x ≡ false
-unfolding ne is_nan
-not_nan nan n = n
-not_nan (inf s) n = refl
-not_nan (fin s m e) n = refl
 
 over_not_nan : (x : Float) → le (fin false 709 (pos 0)) x ≡ true → is_nan x ≡ false
 unfolding le is_nan
@@ -33,21 +26,21 @@ exp_is : (x : Float) → exp_of x ≡ cases (is_nan x) (le (fin false 709 (pos 0
 unfolding exp_of multiple_of of_int of_bits mul
 exp_is x = refl
 
-pub exp_nan : (x : Float) → ne x x ≡ true → x ≡ exp_of x
+pub exp_nan : (x : Float) → is_nan x ≡ true → x ≡ exp_of x
 unfolding exp_of is_nan
-exp_nan x n =
-    let e : x ≡ nan = differs_from_itself x (subst T (sym n) tt) in
-    e ∙ ap exp_of (sym e)
+exp_nan nan n = refl
+exp_nan (inf s) n = absurd (false≢true n)
+exp_nan (fin s m e) n = absurd (false≢true n)
 
 pub exp_over : (x : Float) → le (fin false 709 (pos 0)) x ≡ true → inf false ≡ exp_of x
 exp_over x a = sym (exp_is x ∙ cc (over_not_nan x a, a))
 
-module _ (x : Float) (n : ne x x ≡ false) (a : le (fin false 709 (pos 0)) x ≡ false) where
+module _ (x : Float) (n : is_nan x ≡ false) (a : le (fin false 709 (pos 0)) x ≡ false) where
   pub exp_under : le x (fin true 177 (pos 2)) ≡ true → fin false 0 (pos 0) ≡ exp_of x
-  exp_under b = sym (exp_is x ∙ cc (not_nan x n, a, b))
+  exp_under b = sym (exp_is x ∙ cc (n, a, b))
 
   pub exp_between : le x (fin true 177 (pos 2)) ≡ false → exp_of x ≡ scaled_series x (nearest_whole (mul binary64 x scale))
-  exp_between b = exp_is x ∙ cc (not_nan x n, a, b)
+  exp_between b = exp_is x ∙ cc (n, a, b)
 
 -- ---- between the limits: the bits of the sum, and the result from its parts
 -- the code's SHIFT_BELOW

@@ -7,7 +7,7 @@ use native.Mathlib.Nat.{le_of_eq}
 use native.Mathlib.Omega.{arith}
 use lib.Dec.{T, ltb, eqb, ltb→lt, eqb→eq}
 use lib.IntN.{ℤ, pos, negsuc}
-use lib.Ieee.{Float, nan, inf, fin, binary64, up, down, odd, units, round, mul, le, ne}
+use lib.Ieee.{Float, nan, inf, fin, binary64, up, down, odd, units, round, mul, le, is_nan}
 use lib.Ieee.Fits.{round_is, down_pos, and_l}
 use lib.Ieee.Nearest.{closest, closest_mono}
 use lib.Ieee.Order.{round_mono}
@@ -82,8 +82,8 @@ or_left true b h = h
 or_left false b h = refl
 
 -- the code's three tests are false
-pub between : (x : Float) → ne x x ≡ false → le (fin false 709 (pos 0)) x ≡ false → le x (fin true 177 (pos 2)) ≡ false → Shifted (mul binary64 x scale)
-unfolding ne le mul
+pub between : (x : Float) → is_nan x ≡ false → le (fin false 709 (pos 0)) x ≡ false → le x (fin true 177 (pos 2)) ≡ false → Shifted (mul binary64 x scale)
+unfolding is_nan le mul
 between nan n a b = absurd (true≢false n)
 between (inf true) n a b = absurd (true≢false b)
 between (inf false) n a b = absurd (true≢false a)

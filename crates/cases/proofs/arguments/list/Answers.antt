@@ -1,25 +1,22 @@
 -- `list` meets its contract.
-use mathlib.Core.Path.{refl, sym, ap, ◌∙◌}
+use Rattle.std.proofs.Common.{refl, sym, ap, arith, ◌∙◌}
 use native.Mathlib.Nat.{zero-add}
-use native.Mathlib.Omega.{arith}
-use lib.ListN.{length-set}
 use lib.Ieee.{nan}
 use Rattle.vectors.specs.MemoryLaws.{grown_none, grown_step, grown_all}
 use Rattle.cases.specs.Arguments.{argument_of, list_of}
 use Rattle.cases.proofs.arguments.States.{first, next}
 use Rattle.cases.proofs.arguments.list.Goals as goal
 
-pub loop-i-init : goal.loop-i-init
-loop-i-init c = (grown_none 0 0 _ _, first _, refl)
+pub loop-x-init : goal.loop-x-init
+loop-x-init c = record { grown = grown_none 0 0 _ _; state = first _ }
 
-pub loop-i-preserved : goal.loop-i-preserved
-loop-i-preserved c =
-    let turn = c.loop-i in (
-      grown_step turn.invariant.0 (sym (zero-add turn.i)) (λ E f. c.argument.ensures ∙ ap (argument_of _) turn.invariant.1),
-      next _ _ turn.invariant.1 c.after-s.ensures,
-      simp length-set (omega arith),
-    )
+pub loop-x-preserved : goal.loop-x-preserved
+loop-x-preserved c =
+    let before = c.loop-x.invariant in record {
+      grown = grown_step before.grown (sym (zero-add c.loop-x.x-index)) (λ E f. c.argument.ensures ∙ ap (argument_of _) before.state);
+      state = next _ _ before.state c.after-s.ensures;
+    }
 
 pub returns : goal.returns
 unfolding list_of
-returns c = grown_all _ nan c.loop-i.invariant.0 (omega arith) refl
+returns c = grown_all _ nan c.loop-x.invariant.grown (omega arith) refl

@@ -1,8 +1,19 @@
 -- `order_forms::spelling::put_order` meets its contract.
-use Rattle.order_forms.proofs.Writing.{order_wrote}
+use Rattle.std.proofs.Common.{◌*◌, arith}
+use Rattle.run.specs.WriteLaws.{wrote_one}
+use Rattle.order_forms.specs.Spelling.{spelled_of}
+use Rattle.order_forms.proofs.Writing.{lent_bytes, then_wrote}
 use Rattle.order_forms.proofs.spelling.put_order.Goals as goal
 
 pub returns : goal.returns
+unfolding spelled_of
 returns c =
-    let a = c.args in
-    order_wrote a.input.now a.p c.put_first_three.ensures c.put_last_three.ensures c.put_calls.ensures
+    let s = c.args.input.now in
+    let p = c.args.p in
+    let f = c.requires in
+    let end = wrote_one c.put_command-end.result 9 c.put_command-end.new.out (omega arith) in
+    let begin = then_wrote c.put_command-begin.ensures (then_wrote c.put_command-end.ensures end) in
+    let dx_level = then_wrote c.put_command-dx_level.ensures (then_wrote c.put_command-skip.ensures begin) in
+    let all = then_wrote c.put_command-level.ensures (then_wrote c.put_command-max_time.ensures (then_wrote c.put_command-interval.ensures dx_level)) in
+    let settings = rw (lent_bytes 8 s p.amplitude f.amplitude, lent_bytes 1 s p.level f.level, lent_bytes 8 s p.max_time f.max_time, lent_bytes 8 s p.interval f.interval, lent_bytes 1 s p.dx_level f.dx_level, lent_bytes 1 s p.skip f.skip) at all in
+    rw (lent_bytes (5 * p.count) s p.advances f.advances) at settings

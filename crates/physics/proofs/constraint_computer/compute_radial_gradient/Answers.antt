@@ -11,8 +11,8 @@ returns c =
     let h = c.args.h in
     let n = c.args.n in
     difference_pass n 8 (diff_at h) c.args.w.now (omega arith) (omega arith) (omega arith) refl (rw c.store_ends.ensures at c.radial_gradient_inner.ensures.1) (λ xs long is. (
-      diff_left0_lem h n xs _ long is c.row5.ensures,
-      diff_left1_lem h n xs _ long is c.row5-2.ensures,
-      diff_right1_lem h n xs _ long is (omega arith) c.row5-3.ensures,
-      diff_right0_lem h n xs _ long is (omega arith) c.row5-4.ensures,
+      diff_left0_lem h n xs _ long is c.row.ensures,
+      diff_left1_lem h n xs _ long is c.row-2.ensures,
+      diff_right1_lem h n xs _ long is (omega arith) c.row-3.ensures,
+      diff_right0_lem h n xs _ long is (omega arith) c.row-4.ensures,
     ))

@@ -17,7 +17,7 @@ loop-i-preserved c =
       omega arith,
       simp length-set (omega arith),
       difference_turn a.n 8 (diff_at a.h) c.loop-i.invariant.3 (omega arith) (omega arith) refl (λ xs long is.
-          diff_inner_lem a.h _ xs _ long is _ (omega arith) (omega arith) c.row5_hollow.ensures),
+          diff_inner_lem a.h _ xs _ long is _ (omega arith) (omega arith) c.row_hollow.ensures),
     )
 
 pub returns : goal.returns

@@ -21,7 +21,7 @@ loop-i-preserved c =
       omega arith,
       simp length-set (omega arith),
       grown_step c.loop-i.invariant.3 refl (λ E f. c.third_difference_times.ensures
-          ∙ rw (third_in n a.from a.back f lt pre.0.far (omega arith) W c.row7_hollow.ensures)),
+          ∙ rw (third_in n a.from a.back f lt pre.0.far (omega arith) W c.row_hollow.ensures)),
     )
 
 pub returns : goal.returns

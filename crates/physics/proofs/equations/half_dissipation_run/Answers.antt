@@ -23,7 +23,7 @@ loop-i-preserved c =
       omega arith,
       simp length-set (omega arith),
       grown_step c.loop-i.invariant.3 refl (λ E f. c.third_difference_times.ensures
-          ∙ rw (third_in n a.from a.back f lt pre.0.far (omega arith) W c.row7_hollow.ensures, filled_at n (20 * n) n i nan f (omega arith) (apart_left a.to n (20 * n) n pre.0.target) lt)),
+          ∙ rw (third_in n a.from a.back f lt pre.0.far (omega arith) W c.row_hollow.ensures, filled_at n (20 * n) n i nan f (omega arith) (apart_left a.to n (20 * n) n pre.0.target) lt)),
     )
 
 pub returns : goal.returns

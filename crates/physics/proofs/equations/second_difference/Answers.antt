@@ -11,8 +11,8 @@ returns c =
     let h = c.args.h in
     let n = c.args.n in
     difference_pass n 9 (diff2_at h) c.args.w.now (omega arith) (omega arith) (omega arith) refl (rw c.store_ends.ensures at c.second_difference_inner.ensures.1) (λ xs long is. (
-      diff2_left0_lem h n xs _ long is c.row6.ensures,
-      diff2_left1_lem h n xs _ long is c.row6-2.ensures,
-      diff2_right1_lem h n xs _ long is (omega arith) c.row6_descending.ensures,
-      diff2_right0_lem h n xs _ long is (omega arith) c.row6_descending-2.ensures,
+      diff2_left0_lem h n xs _ long is c.row.ensures,
+      diff2_left1_lem h n xs _ long is c.row-2.ensures,
+      diff2_right1_lem h n xs _ long is (omega arith) c.row_descending.ensures,
+      diff2_right0_lem h n xs _ long is (omega arith) c.row_descending-2.ensures,
     ))

@@ -17,7 +17,7 @@ loop-i-preserved c =
       omega arith,
       simp length-set (omega arith),
       difference_turn a.n 9 (diff2_at a.h) c.loop-i.invariant.3 (omega arith) (omega arith) refl (λ xs long is.
-          diff2_inner_lem a.h _ xs _ long is _ (omega arith) (omega arith) c.row5.ensures),
+          diff2_inner_lem a.h _ xs _ long is _ (omega arith) (omega arith) c.row.ensures),
     )
 
 pub returns : goal.returns

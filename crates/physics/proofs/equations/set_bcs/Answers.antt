@@ -14,4 +14,4 @@ unfolding diff_left0
 returns c =
     let a = c.args in
     let w = a.w.now in
-    bounded_put a.at a.n w _ (omega arith) (omega arith) (neumann_is _ c.row4-left.ensures ∙ ap neumann_of (lent a.at _ a.n w refl))
+    bounded_put a.at a.n w _ (omega arith) (omega arith) (neumann_is _ c.row-left.ensures ∙ ap neumann_of (lent a.at _ a.n w refl))

@@ -1,5 +1,5 @@
 -- `move_variables` meets its contract.
-use Rattle.std.proofs.Common.{◌*◌, List, refl, ap, ◌∙◌, arith, rules}
+use Rattle.std.proofs.Common.{◌≡◌, ◌-◌, ◌*◌, List, length, take, drop, refl, ap, ◌∙◌, arith, rules}
 use lib.Ieee.{Float}
 use Rattle.vectors.specs.Memory.{part, put}
 use Rattle.vectors.specs.MemoryLaws.{apart_left, lent}
@@ -13,7 +13,8 @@ pub advance-requires : goal.advance-requires
 advance-requires c =
     let pre = c.requires in
     let n = c.args.n in
-    (search rules, record { source = omega arith; target = omega arith; far = apart_left (0 * n) (2 * n) (13 * n) (2 * n) (omega arith) })
+    let long : length (take (2 * n - 0 * n) (drop (0 * n) c.args.state.now)) ≡ 2 * n = search rules in
+    rw long (record { source = omega arith; target = omega arith; far = apart_left (0 * n) (2 * n) (13 * n) (2 * n) (omega arith) })
 
 pub returns : goal.returns
 returns c =
@@ -22,6 +23,7 @@ returns c =
     let n = a.n in
     let state = a.state.now in
     let w = a.w.now in
+    let long : length (take (2 * n - 0 * n) (drop (0 * n) state)) ≡ 2 * n = search rules in
     let e = ap (λ (x : List Float). advanced_of (2 * n) a.c x (part (13 * n) (2 * n) w)) (lent (0 * n) (2 * n) (2 * n) state (omega arith)) in
     renamed refl (wrote_two n 0 _ _ w (length-advanced_of n _ _ _) (length-advanced_of n _ _ _) (omega arith)
-    (c.advance.ensures ∙ ap (λ (x : List Float). put (0 * n) x w) (e ∙ advanced_two n a.c state 0 w 13 (omega arith) (omega arith))))
+    ((rw long at c.advance.ensures) ∙ ap (λ (x : List Float). put (0 * n) x w) (e ∙ advanced_two n a.c state 0 w 13 (omega arith) (omega arith))))

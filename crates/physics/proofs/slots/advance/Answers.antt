@@ -1,22 +1,16 @@
 -- `advance` meets its contract.
-use Rattle.std.proofs.Common.{refl, arith, length-set}
+use Rattle.std.proofs.Common.{refl, arith, length}
 use lib.Ieee.{nan}
-use Rattle.vectors.specs.MemoryLaws.{grown_none, grown_step, grown_put, filled_at}
+use Rattle.vectors.specs.MemoryLaws.{grown_step, grown_put, filled_at}
 use Rattle.physics.specs.Vector.{advanced_of}
 use Rattle.physics.proofs.slots.advance.Goals as goal
-
-pub loop-i-init : goal.loop-i-init
-loop-i-init c = (omega arith, refl, grown_none _ 0 _ _)
 
 pub loop-i-preserved : goal.loop-i-preserved
 loop-i-preserved c =
     let a = c.args in
-    let n = a.n in (
-      omega arith,
-      simp length-set (omega arith),
-      grown_step c.loop-i.invariant.2 refl (λ E f. rw (filled_at n a.from n c.loop-i.i nan f (omega arith) c.requires.1.far (omega arith))),
-    )
+    let n = length a.vector.now in
+    grown_step c.loop-i.invariant refl (λ E f. rw (filled_at n a.from n c.loop-i.i nan f (omega arith) c.requires.far (omega arith)))
 
 pub returns : goal.returns
 unfolding advanced_of
-returns c = grown_put c.args.n nan c.loop-i.invariant.2 (omega arith) (omega arith)
+returns c = grown_put (length c.args.vector.now) nan c.loop-i.invariant (omega arith) (omega arith)

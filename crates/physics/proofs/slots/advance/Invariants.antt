@@ -1,4 +1,4 @@
-use Rattle.std.proofs.Common.{◌≡◌, ◌-◌, ◌≤◌, length}
+use Rattle.std.proofs.Common.{length}
 use lib.Ieee.{binary64, add, mul}
 use Rattle.vectors.specs.Memory.{part}
 use Rattle.vectors.specs.MemoryLaws.{Grown}
@@ -8,7 +8,4 @@ use Rattle.physics.proofs.slots.advance.Given as goal
 -- the advanced vector stands before i
 abbrev pub invariant-loop-i : goal.invariant-loop-i
 invariant-loop-i l =
-    (l.i ≤ l.n) × (length l.w ≡ l.len) × Grown l.to l.initial.i l.i (λ E j. add binary64 (at l.vector j) (mul binary64 l.c (at (part l.from l.n E) j))) l.initial.w l.w
-
-abbrev pub decreases-loop-i : goal.decreases-loop-i
-decreases-loop-i l = l.n - l.i
+    let n = length l.vector in Grown l.to 0 l.i (λ E j. add binary64 (at l.vector j) (mul binary64 l.c (at (part l.from n E) j))) l.initial.w l.w

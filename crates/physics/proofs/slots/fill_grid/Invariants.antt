@@ -1,4 +1,3 @@
-use Rattle.std.proofs.Common.{◌≡◌, ◌-◌, ◌≤◌, length}
 use Rattle.vectors.specs.Dissipation.{radial_correction_of}
 use Rattle.vectors.specs.Grid.{point_of}
 use Rattle.physics.specs.Fills.{Grown2}
@@ -7,7 +6,4 @@ use Rattle.physics.proofs.slots.fill_grid.Given as goal
 -- both vectors stand before i
 abbrev pub invariant-loop-i : goal.invariant-loop-i
 invariant-loop-i l =
-    (l.i ≤ l.n) × (length l.w ≡ l.len) × Grown2 l.points l.correction l.initial.i l.i (λ E. point_of l.level) (λ E j. radial_correction_of (point_of l.level j)) l.initial.w l.w
-
-abbrev pub decreases-loop-i : goal.decreases-loop-i
-decreases-loop-i l = l.n - l.i
+    Grown2 l.points l.correction 0 l.i (λ E. point_of l.level) (λ E j. radial_correction_of (point_of l.level j)) l.initial.w l.w

@@ -1,34 +1,24 @@
 -- `run::carry_out::begin_run` meets its contract.
-use Rattle.run.specs.Lines.{text_of}
-use Rattle.run.proofs.Carrying.{size_is, begun_refused, begun_fits, begun_accepted}
+use Rattle.std.proofs.Common.{arith}
+use Rattle.std.proofs.lemmas.Grind.{common_steps}
+use Rattle.run.specs.Lines.{refusal, text_of}
+use Rattle.run.specs.Model.{frame_count}
+use Rattle.run.specs.CarryOut.{begin_turn}
+use Rattle.run.proofs.Carrying.{line_writes, begun_fits, begun_large}
 use Rattle.run.proofs.carry_out.begin_run.Goals as goal
 
-pub frames_in-end-requires : goal.frames_in-end-requires
-frames_in-end-requires c =
-    let a = c.args in
-    let d = c.begin-begun in
-    let e = size_is _ c.frame_size.ensures in
-    let f = begun_fits a.settings a.places a.input.now a.state.now a.work.now a.frames.now a.out.now d.result _ _ d.ensures.frames_after _ _ c.in-Accepted.is c.requires in record {
-      frames_in_bounds = f.0;
-      size_in_bounds = rw e f.1.0;
-      le_size = rw e f.1.1;
-    }
+pub frames_in-requires-clause-size_in_bounds : goal.frames_in-requires-clause-size_in_bounds
+unfolding frame_count
+frames_in-requires-clause-size_in_bounds c = rw c.frame_size.ensures (begun_fits c.args.settings _ _ _ c.in-Ok.begun _ _ c.in-Ok.ensures.frames_after)
 
-pub returns-in-Refused : goal.returns-in-Refused
-unfolding text_of
-returns-in-Refused c =
-    let a = c.args in
-    let d = c.begin-begun in record {
-      out_after = begun_refused a.settings a.places a.input.now a.state.now a.work.now a.frames.now a.out.now d.result _ _ d.ensures.frames_after _ c.in-Refused.is c.refusal_in.ensures;
-      work_unchanged = d.ensures.work_unchanged;
-    }
+pub frames_in-requires-clause-le_size : goal.frames_in-requires-clause-le_size
+unfolding frame_count
+frames_in-requires-clause-le_size c = rw c.frame_size.ensures (begun_large c.args.settings _ _ _ c.in-Ok.begun _ _ c.in-Ok.ensures.frames_after)
 
-pub returns-in-Accepted : goal.returns-in-Accepted
-returns-in-Accepted c =
-    let a = c.args in
-    let d = c.begin-begun in
-    let e = size_is _ c.frame_size.ensures in record {
-      out_after = begun_accepted a.settings a.places a.input.now a.state.now a.work.now a.frames.now a.out.now d.result _ _ d.ensures.frames_after _ _ c.in-Accepted.is c.answered.result
-          (rw e at c.frames_in-end.ensures) c.advance_at.ensures c.answered.ensures;
-      work_unchanged = d.ensures.work_unchanged;
-    }
+pub returns-in-Err-clause-out_after : goal.returns-in-Err-clause-out_after
+unfolding begin_turn text_of
+returns-in-Err-clause-out_after c = let w = line_writes (refusal _) c.refusal_in.ensures in grind (arith, common_steps, w.is, w.ends)
+
+pub returns-in-Ok-clause-out_after : goal.returns-in-Ok-clause-out_after
+unfolding begin_turn frame_count
+returns-in-Ok-clause-out_after c = grind (arith, common_steps)

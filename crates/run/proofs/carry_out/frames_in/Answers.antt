@@ -1,52 +1,35 @@
 -- `run::carry_out::frames_in` meets its contract.
-use Rattle.std.proofs.Common.{length, refl, arith}
-use Rattle.run.proofs.CarryOut.{frames_first, frames_left, frames_length_lem, turn_room, frames_turn, frames_done}
+use Rattle.std.proofs.Common.{◌∙◌, arith}
+use Rattle.run.proofs.CarryOut.{writing_first, turn_room, turn, writing_done}
 use Rattle.run.proofs.carry_out.frames_in.Goals as goal
 
-pub loop-i-init : goal.loop-i-init
-loop-i-init c = (omega arith, omega arith, omega arith, omega arith, frames_first _ _ _)
-
-pub overflow_mul-from : goal.overflow_mul-from
-overflow_mul-from c =
-    let v = c.loop-i in
-    let a = c.args in
-    omega (arith, frames_left v.i a.count a.size (length a.frames.now) (omega arith) v.invariant.1)
-
-pub overflow_add-to : goal.overflow_add-to
-overflow_add-to c =
-    let v = c.loop-i in
-    let a = c.args in
-    omega (arith, frames_left v.i a.count a.size (length a.frames.now) (omega arith) v.invariant.1)
-
-pub offset_bounds-frames-from : goal.offset_bounds-frames-from
-offset_bounds-frames-from c =
-    let v = c.loop-i in
-    let a = c.args in
-    omega (arith, frames_left v.i a.count a.size (length a.frames.now) (omega arith) v.invariant.1)
-
-pub slice_bounds-frame_in-end : goal.slice_bounds-frame_in-end
-slice_bounds-frame_in-end c =
-    let v = c.loop-i in
-    let a = c.args in
-    omega (arith, frames_left v.i a.count a.size (length a.frames.now) (omega arith) v.invariant.1)
+pub loop-frame-init : goal.loop-frame-init
+loop-frame-init c =
+    let p = c.requires in
+    let t = c.take-frame-items.ensures in
+    rw (c.into_iter-frame-iterator.ensures.into_iter_gives, t.source, t.count, c.chunks_exact.ensures.rest)
+    (c.chunks_exact.ensures.size, writing_first c.args.count c.args.size c.args.frames.now c.args.out.now p.le_size p.size_in_bounds p.frames_in_bounds)
 
 pub frame_in-at-requires : goal.frame_in-at-requires
 frame_in-at-requires c =
-    let v = c.loop-i in
-    let a = c.args in
-    turn_room v.i a.count a.size v.at _ _ a.frames.now (omega arith) v.invariant.1 v.invariant.2 v.invariant.3 refl refl v.invariant.4
+    let p = c.requires in
+    let w = c.loop-frame.invariant in
+    let s = c.in-Some.ensures.steps in
+    turn_room c.args.count c.args.size c.args.frames.now c.args.out.now p.le_size p.size_in_bounds p.frames_in_bounds _ _ _ w.1 s.1 s.0.1.0 (s.0.1.1 ∙ w.0)
 
-pub loop-i-preserved : goal.loop-i-preserved
-loop-i-preserved c =
-    let v = c.loop-i in
-    let a = c.args in
-    (omega arith, v.invariant.1, v.invariant.2, v.invariant.3, frames_turn v.i a.count a.size v.at _ _ _ a.frames.now (omega arith) v.invariant.1 v.invariant.2 v.invariant.3 refl refl v.invariant.4 c.frame_in-at.ensures)
-
-pub shape_of-out : goal.shape_of-out
-shape_of-out c =
-    let v = c.loop-i in
-    let a = c.args in
-    frames_length_lem v.i a.count a.size a.frames.now v.invariant.0 v.invariant.1 v.invariant.2 v.invariant.3 v.invariant.4
+pub loop-frame-preserved : goal.loop-frame-preserved
+loop-frame-preserved c =
+    let p = c.requires in
+    let w = c.loop-frame.invariant in
+    let s = c.in-Some.ensures.steps in (
+      s.0.0 ∙ w.0,
+      turn c.args.count c.args.size c.args.frames.now c.args.out.now p.le_size p.size_in_bounds p.frames_in_bounds _ _ _ w.1 s.1 s.0.1.0 (s.0.1.1 ∙ w.0)
+          c.frame_in-at.ensures,
+    )
 
 pub returns : goal.returns
-returns c = frames_done c.args.count c.loop-i.i _ _ (omega arith) c.loop-i.invariant.4
+returns c =
+    let p = c.requires in
+    let w = c.loop-frame.invariant in
+    writing_done c.args.count c.args.size c.args.frames.now c.args.out.now p.le_size p.size_in_bounds p.frames_in_bounds w.1
+    (λ more. omega (arith, (c.in-None.ensures.steps more).1.0, w.0))

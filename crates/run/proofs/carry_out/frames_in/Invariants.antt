@@ -1,12 +1,11 @@
-use Rattle.std.proofs.Common.{◌-◌, ◌*◌, ◌≤◌, length}
-use Rattle.run.specs.CarryOut.{room_for, Writes}
-use Rattle.run.proofs.CarryOut.{frames_text}
+-- The frames that are left are those that the iterator has.
+use Rattle.std.proofs.Common.{◌≡◌}
+use Rattle.std.specs.Iterator.Adapters.{take_source, take_count}
+use Rattle.std.specs.Slice.Iter.{chunks_exact_rest, chunks_exact_size}
+use Rattle.run.proofs.CarryOut.{Writing}
 use Rattle.run.proofs.carry_out.frames_in.Given as goal
 
-abbrev pub invariant-loop-i : goal.invariant-loop-i
-invariant-loop-i l =
-    (l.i ≤ l.count) × (l.count * l.size ≤ length l.frames) × (6 ≤ l.size) × (room_for (length l.frames) ≤ length l.initial.out)
-    × Writes (frames_text l.i l.size l.frames) l.initial.out l.out l.at
-
-abbrev pub decreases-loop-i : goal.decreases-loop-i
-decreases-loop-i l = l.count - l.i
+abbrev pub invariant-loop-frame : goal.invariant-loop-frame
+invariant-loop-frame l =
+    (chunks_exact_size (take_source l.frame-iterator) ≡ l.size)
+    × Writing l.count l.size l.frames l.initial.out (take_count l.frame-iterator) (chunks_exact_rest (take_source l.frame-iterator)) l.out l.at

@@ -4,5 +4,5 @@ use Rattle.run.proofs.model.start_state.Goals as goal
 
 pub returns : goal.returns
 returns c =
-    let all = first_made c.args.s _ c.args.work.now _ c.requires.s_value c.requires.s_in_bounds c.build_initial_state.ensures.0 c.build_initial_state.ensures.1 in
+    let all = first_made c.args.s _ c.args.work.now _ c.requires.s_value c.requires.s_in_bounds c.build_initial_state.ensures.refused c.build_initial_state.ensures.made in
     record { work_after = all.0; work_unchanged = all.1 }

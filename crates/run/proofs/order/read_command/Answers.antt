@@ -12,4 +12,4 @@ returns-then-len-from c =
 
 pub returns : goal.returns
 returns c =
-    read_whole _ _ c.if-len-at.false c.operand_size-size.ensures (omega arith) c.command_of-command.ensures refl
+    read_whole _ _ c.if-len-at.false c.operand_size-size.ensures (omega arith) c.command_of.ensures refl

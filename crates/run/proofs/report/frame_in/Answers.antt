@@ -2,29 +2,21 @@
 use Rattle.std.proofs.Common.{refl, ◌∙◌, arith}
 use Rattle.run.specs.Ascii.{bytes_of}
 use Rattle.run.specs.Report.{frame_word}
+use Rattle.run.specs.ReportLaws.{length_hex}
 use Rattle.run.proofs.Texts.{frame_turn, frame_done}
 use Rattle.run.proofs.report.frame_in.Goals as goal
 
-pub loop-i-init : goal.loop-i-init
-loop-i-init c = (omega (arith, c.put_word.ensures.long), omega arith, refl, omega arith, refl, omega arith, refl)
-
-pub loop-i-preserved : goal.loop-i-preserved
-loop-i-preserved c =
-    let v = c.loop-i in
-    let w = c.put_float.ensures in
-    let frame = c.args.frame.now in (
-      omega (arith, w.long),
-      omega arith,
-      omega (arith, w.long),
-      omega arith,
-      omega arith,
-      omega arith,
-      frame_turn v.p v.i _ frame (omega arith) (omega arith) refl w ∙ v.invariant.6,
+pub loop-x-preserved : goal.loop-x-preserved
+loop-x-preserved c =
+    let v = c.loop-x in
+    let w = c.put_float-p.ensures in (
+      omega (arith, w.ends, length_hex),
+      frame_turn v.p v.x-index _ c.args.frame.now (omega arith) (omega arith) refl w ∙ v.invariant.1,
     )
 
 pub returns : goal.returns
 unfolding frame_word bytes_of
 returns c =
-    let v = c.loop-i in
+    let v = c.loop-x in
     let a = c.args in
-    frame_done a.at v.i a.frame.now (omega arith) c.put_word.ensures v.invariant.6 (omega arith) (omega arith) c.put_newline.ensures
+    frame_done a.at v.x-index a.frame.now (omega arith) c.put_word-p.ensures v.invariant.1 (omega arith) (omega arith) c.put_word.ensures

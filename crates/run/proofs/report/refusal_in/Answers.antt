@@ -8,4 +8,4 @@ use Rattle.run.proofs.report.refusal_in.Goals as goal
 pub returns : goal.returns
 unfolding refusal_line refused_word bytes_of
 returns c =
-    puts_wider (puts_then (puts_then c.put_word-a.ensures c.put_decimal-b.ensures (omega arith)) c.put_newline.ensures (omega arith)) (omega arith)
+    puts_wider (puts_then (puts_then c.put_word-a.ensures c.put_decimal-b.ensures (omega arith)) c.put_word.ensures (omega arith)) (omega arith)

@@ -5,14 +5,14 @@ use Rattle.run.proofs.Texts.{no_room_lem, has_room}
 use Rattle.run.proofs.report.write_frame.Goals as goal
 
 pub frame_in-requires : goal.frame_in-requires
-frame_in-requires c = leb-true _ _ (sym c.frame_fits.ensures ∙ c.if-frame_fits.true)
+frame_in-requires c = leb-true _ _ (sym c.frame_fits.ensures ∙ c.if-not-frame_fits.false)
 
-pub returns-then-frame_fits : goal.returns-then-frame_fits
-returns-then-frame_fits c =
-    let a = c.args in
-    let wrote = c.frame_in.ensures in
-    let fits = ap (λ (n : ℕ). leb (a.at + n) (length a.out.now)) (length_frame a.frame.now) ∙ sym c.frame_fits.ensures ∙ c.if-frame_fits.true in
-    has_room _ _ _ fits wrote.0 wrote.1
+pub returns-then-not-frame_fits : goal.returns-then-not-frame_fits
+returns-then-not-frame_fits c = no_room_lem _ _ _ (length_frame _) (sym c.frame_fits.ensures ∙ c.if-not-frame_fits.true)
 
 pub returns : goal.returns
-returns c = no_room_lem _ _ _ (length_frame _) (sym c.frame_fits.ensures ∙ c.if-frame_fits.false)
+returns c =
+    let a = c.args in
+    let wrote = c.frame_in.ensures in
+    let fits = ap (λ (n : ℕ). leb (a.at + n) (length a.out.now)) (length_frame a.frame.now) ∙ sym c.frame_fits.ensures ∙ c.if-not-frame_fits.false in
+    has_room _ _ _ fits wrote.0 wrote.1

@@ -1,25 +1,11 @@
 -- `run::simulate::begin` meets its contract.
-use Rattle.std.proofs.Common.{length, sym, refl, ap, ◌∙◌}
-use Rattle.run.specs.Answers.{refusal_of}
-use Rattle.run.proofs.Beginning.{kept_beyond, begin_uses_lem, begin_refused}
+use Rattle.std.proofs.Common.{arith}
+use Rattle.std.proofs.lemmas.Grind.{common_steps}
+use Rattle.std.proofs.lemmas.Result.{err_from_is_err_and}
+use Rattle.run.specs.Calls.{begin_of, begin_refusal}
 use Rattle.run.proofs.simulate.begin.Goals as goal
 
-pub start_run-requires : goal.start_run-requires
-start_run-requires c = sym c.begin_verdict-verdict.ensures ∙ ap refusal_of c.in-Sound.is
-
-pub returns-in-Refused : goal.returns-in-Refused
-returns-in-Refused c =
-    let a = c.args in record {
-      frames_after = begin_refused a.settings a.state.now a.work.now a.frames.now _
-          (sym c.begin_verdict-verdict.ensures ∙ ap refusal_of c.in-Refused.is);
-      work_unchanged = refl;
-    }
-
-pub returns-in-Sound : goal.returns-in-Sound
-returns-in-Sound c =
-    let a = c.args in
-    let uses = begin_uses_lem a.settings (length a.state.now) (length a.work.now) (length a.frames.now)
-    (sym c.begin_verdict-verdict.ensures ∙ ap refusal_of c.in-Sound.is) in record {
-      frames_after = c.start_run.ensures.frames_after;
-      work_unchanged = kept_beyond uses _ _ c.start_run.ensures.work_unchanged;
-    }
+pub returns-in_err-begin_verdict-clause-frames_after : goal.returns-in_err-begin_verdict-clause-frames_after
+unfolding begin_of begin_refusal
+returns-in_err-begin_verdict-clause-frames_after c =
+    let p = err_from_is_err_and c.from_residual.result c.from_residual.ensures.1 in rw (p.1, p.2) (grind (arith, common_steps, c.in_err-begin_verdict.ensures))

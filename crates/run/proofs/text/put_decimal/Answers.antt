@@ -1,19 +1,9 @@
 -- `run::text::put_decimal` meets its contract.
-use Rattle.std.proofs.Common.{refl, ◌∙◌, arith, length-set}
+use Rattle.std.proofs.Common.{arith}
 use Rattle.run.specs.Report.{decimal}
-use Rattle.run.proofs.Texts.{puts_digits}
+use Rattle.run.proofs.Texts.{puts_wider}
 use Rattle.run.proofs.text.put_decimal.Goals as goal
-
-pub put_digits-requires : goal.put_digits-requires
-put_digits-requires c = (omega arith, omega arith, simp length-set (omega arith))
-
-pub shape_of-out : goal.shape_of-out
-shape_of-out c =
-    let a = c.args in
-    c.put_digits.auto.out ∙ length-set a.out.now a.at 32
 
 pub returns : goal.returns
 unfolding decimal
-returns c =
-    let a = c.args in
-    puts_digits a.at 10 21 c.put_digits.ensures c.decimal_count-k.ensures.0 refl (omega arith) (omega arith) (omega arith)
+returns c = puts_wider (rw c.decimal_count.ensures.0 at c.put_digits.ensures) (omega arith)

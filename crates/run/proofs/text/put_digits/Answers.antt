@@ -1,25 +1,17 @@
 -- `run::text::put_digits` meets its contract.
-use Rattle.std.proofs.Common.{◌+◌, ◌-◌, sym, refl, ◌∙◌, mod-lt, arith, length-set}
-use native.Mathlib.Nat.{sub-zero}
-use Rattle.run.proofs.Texts.{digit_turn, digits_none}
+use Rattle.std.proofs.Common.{◌+◌, ◌-◌, sym, ◌∙◌, mod-lt, arith, length-set}
+use Rattle.run.proofs.Texts.{digit_turn, digits_none, puts_digits}
 use Rattle.run.proofs.text.put_digits.Goals as goal
 
-pub loop-done-init : goal.loop-done-init
-loop-done-init c = (omega arith, refl, omega arith, omega arith, rw sub-zero)
-
 pub digit_byte-requires : goal.digit_byte-requires
-digit_byte-requires c = omega (arith, mod-lt c.loop-done.rest {m = c.args.base} (omega arith))
+digit_byte-requires c = omega (arith, mod-lt c.loop-i.rest {m = c.args.base} (omega arith))
 
-pub loop-done-preserved : goal.loop-done-preserved
-loop-done-preserved c =
-    let v = c.loop-done in
-    let a = c.args in (
-      simp length-set (omega arith),
-      simp length-set (omega arith),
-      simp length-set (omega arith),
-      omega arith,
-      digit_turn a.at a.base (a.k - v.done) (a.k - (v.done + 1)) v.rest _ v.out (omega arith) (omega arith) c.digit_byte.ensures ∙ v.invariant.4,
-    )
+pub loop-i-preserved : goal.loop-i-preserved
+loop-i-preserved c =
+    let v = c.loop-i in
+    let l = length-set c.args.out.now c.args.at 32 in
+    let a = c.args in
+    digit_turn (a.at + 1) a.base v.i (v.i - 1) v.rest _ v.out (omega arith) (omega arith) c.digit_byte.ensures ∙ v.invariant
 
 pub returns : goal.returns
-returns c = sym (digits_none _ _ _ _ _ (omega arith)) ∙ c.loop-done.invariant.4
+returns c = puts_digits c.args.at c.args.base c.args.k c.args.n (sym (digits_none _ _ _ _ _ (omega arith)) ∙ c.loop-i.invariant) (omega arith)

@@ -1,23 +1,10 @@
 -- `vectors::diff::diff2` meets its contract.
-use mathlib.Core.Path.{refl, sym, ◌∙◌}
-use native.Mathlib.Omega.{arith}
-use Rattle.vectors.specs.GridLaws.{points_least}
-use Rattle.vectors.specs.FaultLaws.{both_fit_lem, told_number}
+use Rattle.std.proofs.Common.{sym, ◌∙◌, arith}
+use Rattle.vectors.specs.FaultLaws.{lent_lem}
 use Rattle.vectors.proofs.diff.diff2.Goals as goal
 
 pub diff2_rows-requires : goal.diff2_rows-requires
 diff2_rows-requires c =
-    let fit = both_fit_lem _ _ _ c.in-Done.is c.checked_both-answer.ensures in
-    (omega (arith, fit.1.one, points_least fit.0), fit.1.other ∙ sym fit.1.one)
-
-pub returns-in-Done : goal.returns-in-Done
-returns-in-Done c = (
-  told_number c.in-Done.is c.checked_both-answer.ensures,
-  rw c.delta.ensures at c.diff2_rows.ensures,
-)
-
-pub returns-in-RefusedLevel : goal.returns-in-RefusedLevel
-returns-in-RefusedLevel c = (told_number c.in-RefusedLevel.is c.checked_both-answer.ensures, refl)
-
-pub returns-in-RefusedLength : goal.returns-in-RefusedLength
-returns-in-RefusedLength c = (told_number c.in-RefusedLength.is c.checked_both-answer.ensures, refl)
+    let lent = lent_lem _ _ c.in_ok-checked_lengths.ensures in
+    let points = lent.1 0 (omega arith) in
+    (omega arith, lent.1 1 (omega arith) ∙ sym points)

@@ -2,41 +2,24 @@
 use mathlib.Core.Path.{refl, sym}
 use native.Mathlib.Nat.{zero-add}
 use native.Mathlib.Omega.{arith}
-use lib.ListN.{length, length-set}
+use lib.ListN.{length}
 use lib.Ieee.{nan}
-use Rattle.vectors.specs.MemoryLaws.{grown_none, grown_step, edged}
+use Rattle.vectors.specs.MemoryLaws.{grown_step, edged}
 use Rattle.vectors.specs.Stencil.{diff_of, diff_left0, diff_left1, diff_inner, diff_right1, diff_right0}
 use Rattle.vectors.specs.StencilLaws.{diff_left0_lem, diff_left1_lem, diff_inner_lem, diff_right1_lem, diff_right0_lem}
 use Rattle.vectors.proofs.diff.diff_rows.Goals as goal
 
-pub bounds-out-1 : goal.bounds-out-1
-bounds-out-1 c = simp length-set (omega arith)
-
-pub loop-i-init : goal.loop-i-init
-loop-i-init c = (omega arith, omega arith, simp length-set (omega arith), grown_none 0 2 _ _)
-
 pub loop-i-preserved : goal.loop-i-preserved
 unfolding diff_inner
-loop-i-preserved c = (
-  omega arith,
-  omega arith,
-  simp length-set (omega arith),
-  grown_step c.loop-i.invariant.3 (sym (zero-add _)) (λ E f. diff_inner_lem _ _ _ _ refl refl _ (omega arith) (omega arith) c.row5_hollow.ensures),
-)
-
-pub bounds-out-n-2 : goal.bounds-out-n-2
-bounds-out-n-2 c = simp length-set (omega arith)
-
-pub shape_of-out : goal.shape_of-out
-shape_of-out c = simp length-set (omega arith)
+loop-i-preserved c = grown_step c.loop-i.invariant (sym (zero-add _)) (λ E f. diff_inner_lem _ _ _ _ refl refl _ (omega arith) (omega arith) c.row_hollow.ensures)
 
 pub returns : goal.returns
 unfolding diff_of diff_left0 diff_left1 diff_right1 diff_right0
 returns c =
     let a = c.args in
     let xs = a.vector.now in
-    edged (length xs) nan a.out.now (omega arith) c.requires.1 (omega arith) c.loop-i.invariant.3
-    (diff_left0_lem a.h _ xs xs refl refl c.row5.ensures)
-    (diff_left1_lem a.h _ xs xs refl refl c.row5-2.ensures)
-    (diff_right1_lem a.h _ xs xs refl refl (omega arith) c.row5-3.ensures)
-    (diff_right0_lem a.h _ xs xs refl refl (omega arith) c.row5-4.ensures)
+    edged (length xs) nan a.out.now (omega arith) c.requires.1 (omega arith) c.loop-i.invariant
+    (diff_left0_lem a.h _ xs xs refl refl c.row.ensures)
+    (diff_left1_lem a.h _ xs xs refl refl c.row-2.ensures)
+    (diff_right1_lem a.h _ xs xs refl refl (omega arith) c.row-3.ensures)
+    (diff_right0_lem a.h _ xs xs refl refl (omega arith) c.row-4.ensures)

@@ -1,13 +1,8 @@
-use mathlib.Core.Path.{◌≡◌}
-use Prim.Native.Nat.{◌-◌, ◌≤◌}
-use lib.ListN.{length}
-use Rattle.vectors.specs.MemoryLaws.{Grown}
-use Rattle.vectors.proofs.exp.Mapped.{exp_at}
+use Rattle.std.proofs.Common.{◌≡◌, ◌++◌, map, take, drop}
+use Rattle.vectors.specs.Exp.{exp_of}
 use Rattle.vectors.proofs.exp.each.Given as goal
 
--- the numbers before i are the exponentials of those that were passed, the others are as they were
-abbrev pub invariant-loop-i : goal.invariant-loop-i
-invariant-loop-i l = Grown 0 0 l.i exp_at l.initial.values l.values × (l.i ≤ l.len) × (length l.values ≡ l.len)
-
-abbrev pub decreases-loop-i : goal.decreases-loop-i
-decreases-loop-i l = l.len - l.i
+-- the numbers before x are the exponentials of those that were passed, the others are as they were
+abbrev pub invariant-loop-x : goal.invariant-loop-x
+invariant-loop-x g l =
+    l.values ≡ map exp_of (take l.x-index l.initial.values) ++ drop l.x-index l.initial.values

@@ -1,13 +1,11 @@
 -- `vectors::exp::fraction` meets its contract: the entry that is read is the table's, and with the exponent's field it is T_j's bits.
 use mathlib.Core.Path.{◌≡◌, sym, ap, ◌∙◌, subst}
 use mathlib.Core.Bool.{Bool, false, not}
-use mathlib.Core.List.{List}
 use Prim.Native.Nat.{ℕ, ◌+◌, ◌*◌, ◌^◌, ◌<◌}
 use native.Mathlib.Nat.{mul_assoc}
 use native.Mathlib.Omega.{arith}
 use lib.Dec.{T}
 use lib.Pow.{pow_pos}
-use lib.ListN.{get_or}
 use lib.Ieee.{binary64, fits, of_bits, to_bits, is_nan}
 use lib.Ieee.Bits.{of_bits-to_bits, nan_bits_is}
 use lib.Ieee.Fits.{div-fits}
@@ -16,10 +14,6 @@ use Rattle.vectors.specs.Exp.{fraction_of}
 use Rattle.vectors.specs.ExpLaws.{mantissa_least, mantissa_below, fraction_exact}
 use Rattle.vectors.proofs.Floats.{bits_are, value_no_nan}
 use Rattle.vectors.proofs.exp.fraction.Goals as goal
-
-entry : (table : List ℕ) (j : ℕ) → table ≡ mantissas → get_or table j 0 ≡ mantissa_of j
-unfolding mantissa_of
-entry table j is = ap (λ (l : List ℕ). get_or l j 0) is
 
 holds : (j : ℕ) → T (fits binary64 (fraction_of j))
 unfolding fraction_of
@@ -35,15 +29,18 @@ by_bits j h =
     ap (of_bits binary64) (sum ∙ sym bits) ∙ of_bits-to_bits binary64 (fraction_of j) (holds j)
 
 pub overflow_add-result : goal.overflow_add-result
+unfolding mantissas mantissa_of
 overflow_add-result c =
-    record { fits = omega (arith, entry _ c.args.j c.requires.0, mantissa_below c.args.j c.requires.1) }
+    record { fits = omega (arith, mantissa_below c.args.j c.requires) }
 
 pub returns : goal.returns
+unfolding mantissas mantissa_of
 returns c =
-    ap (λ (m : ℕ). of_bits binary64 (m + 0x3FE0000000000000)) (entry _ c.args.j c.requires.0) ∙ by_bits c.args.j c.requires.1
+    by_bits c.args.j c.requires
 
 pub float_from_bits-result : goal.float_from_bits-result
+unfolding mantissas mantissa_of
 float_from_bits-result c =
     let j = c.args.j in
     subst (λ (z : Bool). T (not z)) (sym (nan_bits_is binary64 _ ∙ ap is_nan (returns c)))
-    (value_no_nan (fraction_of j) false (mantissa_of j) (2 ^ 52) (fraction_exact j c.requires.1))
+    (value_no_nan (fraction_of j) false (mantissa_of j) (2 ^ 52) (fraction_exact j c.requires))

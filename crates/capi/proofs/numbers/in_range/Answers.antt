@@ -1,7 +1,0 @@
--- `capi::numbers::in_range` meets its contract.
-use lib.Ieee.{of_bits, neg}
-use Rattle.capi.proofs.numbers.in_range.Goals as goal
-
-pub returns : goal.returns
-unfolding of_bits neg
-returns c = c.and_also.ensures

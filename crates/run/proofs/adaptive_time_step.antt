@@ -1,2 +1,0 @@
--- What the proof of `floor` uses.
-mod Floors

@@ -1,0 +1,10 @@
+// How a run stands after its attempts.
+
+// Collapse has the mass.
+#[derive(Clone, Copy)]
+pub enum Outcome {
+    Collapse(f64),
+    Broken,
+    Timeout,
+    Spent,
+}

@@ -1,6 +1,0 @@
--- `vectors::answer::checked_three` meets its contract.
-use Rattle.vectors.proofs.answer.checked_three.Goals as goal
-
-pub returns : goal.returns
-returns c = rw (c.and_also-2.ensures, c.and_also.ensures, c.length_at_discretization-n.ensures)
-    at c.checked.ensures

@@ -1,5 +1,0 @@
--- `vectors::rows::row6_descending_inside` meets its contract.
-use Rattle.vectors.proofs.rows.row6_descending_inside.Goals as goal
-
-pub returns : goal.returns
-returns c = cc

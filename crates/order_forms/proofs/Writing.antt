@@ -1,5 +1,5 @@
 -- Bytes as they are lent, and an accepted order with room for it.
-use Rattle.std.proofs.Common.{ℕ, ◌+◌, ◌-◌, ◌≤◌, ◌<◌, List, ◌∷◌, ◌++◌, ◌≡◌, Ok, length, take, drop, refl, sym, ap, ◌∙◌, arith, ext_get_or}
+use Rattle.std.proofs.Common.{ℕ, ◌+◌, ◌-◌, ◌≤◌, ◌<◌, List, ◌∷◌, ◌++◌, ◌≡◌, Ok, length, take, drop, refl, sym, ap, subst, ◌∙◌, arith, ext_get_or}
 use Rattle.vectors.specs.Memory.{part}
 use Rattle.vectors.specs.MemoryLaws.{lent, length_part, get_d_part}
 use Rattle.run.specs.Order.{operand_size, read_order, Order}
@@ -20,10 +20,11 @@ lent_bytes n s from h =
     ∙ ext_get_or 0 (part from n s) (bytes_at n s from) (length_part from n s h ∙ sym (length_bytes n s from))
     (λ i l. let inside : i < n = omega (arith, length_part from n s h) in get_d_part from n s i 0 inside ∙ sym (get_d_bytes n s from i inside))
 
--- a command, and the rest behind it
-pub then_wrote : {at b code : ℕ} {operand rest xs ys zs : List ℕ} → (b ≡ at + (1 + length operand)) × Wrote at (code ∷ operand) xs ys → Wrote b rest ys zs
-    → Wrote at (code ∷ (operand ++ rest)) xs zs
-then_wrote v w = wrote_both v.1 w refl (omega (arith, v.0))
+-- a command whose operand is named, and the rest behind it
+pub then_wrote : {at b code : ℕ} {operand named rest xs ys zs : List ℕ} → operand ≡ named → (b ≡ at + (1 + length operand)) × Wrote at (code ∷ operand) xs ys
+    → Wrote b rest ys zs → Wrote at (code ∷ (named ++ rest)) xs zs
+then_wrote {at} {code = code} {rest = rest} {xs = xs} {zs = zs} e v w =
+    subst (λ (l : List ℕ). Wrote at (code ∷ (l ++ rest)) xs zs) e (wrote_both v.1 w refl (omega (arith, v.0)))
 
 -- ---- an accepted order, with room for it
 module _ (s bytes : List ℕ) (set : Settings) (p : Places) (e : read_order s ≡ Order set p) (h : length s ≤ length bytes) where

@@ -12,8 +12,8 @@ returns c =
     let p = c.args.p in
     let f = c.requires in
     let end = wrote_one c.put_command-end.result 9 c.put_command-end.new.out (omega arith) in
-    let begin = then_wrote c.put_command-begin.ensures (then_wrote c.put_command-end.ensures end) in
-    let dx_level = then_wrote c.put_command-dx_level.ensures (then_wrote c.put_command-skip.ensures begin) in
-    let all = then_wrote c.put_command-level.ensures (then_wrote c.put_command-max_time.ensures (then_wrote c.put_command-interval.ensures dx_level)) in
-    let settings = rw (lent_bytes 8 s p.amplitude f.amplitude, lent_bytes 1 s p.level f.level, lent_bytes 8 s p.max_time f.max_time, lent_bytes 8 s p.interval f.interval, lent_bytes 1 s p.dx_level f.dx_level, lent_bytes 1 s p.skip f.skip) at all in
-    rw (lent_bytes (5 * p.count) s p.advances f.advances) at settings
+    let begin = then_wrote (lent_bytes 1 s p.skip f.skip) c.put_command-begin.ensures (then_wrote (lent_bytes (5 * p.count) s p.advances f.advances) c.put_command-end.ensures end) in
+    let dx_level = then_wrote (lent_bytes 8 s p.interval f.interval) c.put_command-dx_level.ensures (then_wrote (lent_bytes 1 s p.dx_level f.dx_level) c.put_command-skip.ensures begin) in
+    then_wrote (lent_bytes 8 s p.amplitude f.amplitude) c.put_command-level.ensures
+    (then_wrote (lent_bytes 1 s p.level f.level) c.put_command-max_time.ensures
+    (then_wrote (lent_bytes 8 s p.max_time f.max_time) c.put_command-interval.ensures dx_level))

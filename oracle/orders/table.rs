@@ -1,4 +1,4 @@
-//! The orders of the cases, by number. crates/order_cases/src/table.rt and sequences.rt have the same.
+//! The orders of the cases, by number. crates/order_cases/src/table.rt and orders.rt have the same.
 use super::draft::{Asked, Draft, OUT, WHOLE};
 use crate::arguments::{after, draw, unit};
 use crate::digest::mixed;

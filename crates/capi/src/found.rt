@@ -14,6 +14,7 @@ pub(crate) const SHORT_RESULT: u32 = 102;
 // Both ends, the halvings made, why.
 pub(crate) const BRACKET_LENGTH: usize = 4;
 
+// The C interface has numbers for these.
 #[tactic(auto, unfolding(crate::specs::SearchCall::why_number, crate::specs::SearchCall::middle_number))]
 fn why_number(why: Why) -> u32
     ensures { result ≡ why_number (why_of why) }

@@ -22,28 +22,28 @@ use crate::layout::{record_in, settings_in};
 use crate::spelled::tell_spelled;
 use crate::told::{NO_RECORD, tell_advanced, tell_begun};
 use order_forms::spelling::spell;
+use physics::state::{state_size, work_size};
 use run::settings::Settings;
 use run::simulate::{advance, begin};
 use run::state_output_builder::frame_size;
 use threshold::search_in;
-use vectors::grid::length_at_discretization;
 
 // How many numbers of state memory a level wants; 0 for a level outside 5 to 16.
 #[unsafe(no_mangle)]
-#[tactic(auto, using(vectors::specs::GridLaws::points_bound), unfolding(crate::specs::Sizes::state_size_of))]
+#[tactic(auto, unfolding(crate::specs::Sizes::state_size_of))]
 pub extern "C" fn collapse_state_size(level: u32) -> usize
     ensures { result ≡ state_size_of level }
 {
-    8 * length_at_discretization(level)
+    state_size(level)
 }
 
 // How many numbers of work memory a level wants; 0 for a level outside 5 to 16.
 #[unsafe(no_mangle)]
-#[tactic(auto, using(vectors::specs::GridLaws::points_bound), unfolding(crate::specs::Sizes::work_size_of))]
+#[tactic(auto, unfolding(crate::specs::Sizes::work_size_of))]
 pub extern "C" fn collapse_work_size(level: u32) -> usize
     ensures { result ≡ work_size_of level }
 {
-    40 * length_at_discretization(level)
+    work_size(level)
 }
 
 // How many numbers a frame has; 0 for a dx level above 16.
@@ -61,7 +61,7 @@ pub extern "C" fn collapse_frame_size(dx_level: u32) -> usize
     })
 }
 
-// Begins the run whose settings a record's slice holds.
+// Begins the run whose settings a record's slice holds. The parameters, here and below, are those of the C functions.
 #[unsafe(no_mangle)]
 #[tactic(auto, using(crate::specs::LayoutLaws::settings_long), unfolding(crate::specs::Told::begin_call, crate::specs::Told::began_call, crate::specs::Told::no_record, crate::specs::Told::begin_call_uses))]
 pub extern "C" fn collapse_begin(

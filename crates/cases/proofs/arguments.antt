@@ -1,2 +1,3 @@
 -- What the proofs of this module share.
+mod Floats
 mod States

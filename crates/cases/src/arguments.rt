@@ -29,14 +29,16 @@ pub fn after(s: u64) -> u64
 }
 
 // A number from -1 up to 1, from the 52 low bits of the pattern.
+#[tactic(auto, unfolding(crate::specs::Arguments::unit_of, crate::proofs::arguments::Floats::of_constants))]
 fn unit(s: u64) -> f64
     ensures { result ≡ unit_of s }
 {
     of_bits(0x3FF0000000000000 + pattern(s) % 4503599627370496) * 2.0 - 3.0
 }
 
-// u, with +infinity at point kind - 16 of every 4096.
-#[tactic(auto, unfolding(crate::specs::Arguments::spike_of))]
+// u, with +infinity at point kind - 16 of every 4096. This and the next two get i and u side by side: a struct of both would be
+// made once and read once, and be no plainer.
+#[tactic(auto, unfolding(crate::specs::Arguments::spike_of, crate::proofs::arguments::Floats::of_constants))]
 fn spike(kind: u32, i: usize, u: f64) -> f64
     ensures { result ≡ spike_of kind i u }
 {
@@ -47,14 +49,14 @@ fn spike(kind: u32, i: usize, u: f64) -> f64
     }
 }
 
-#[tactic(auto, unfolding(crate::specs::Arguments::infinite_of))]
+#[tactic(auto, unfolding(crate::specs::Arguments::infinite_of, crate::proofs::arguments::Floats::of_constants))]
 fn infinite(i: usize, u: f64) -> f64
     ensures { result ≡ infinite_of i u }
 {
     if i % 11 == 5 { u / 0.0 } else { u }
 }
 
-#[tactic(auto, unfolding(crate::specs::Arguments::missing_of))]
+#[tactic(auto, unfolding(crate::specs::Arguments::missing_of, crate::proofs::arguments::Floats::of_constants))]
 fn missing(i: usize, u: f64) -> f64
     ensures { result ≡ missing_of i u }
 {
@@ -62,7 +64,7 @@ fn missing(i: usize, u: f64) -> f64
 }
 
 // Entry i, at the point r, of a vector of a kind, with the generator in state s.
-#[tactic(auto, unfolding(crate::specs::Arguments::entry_of, crate::specs::Arguments::entries_of))]
+#[tactic(auto, unfolding(crate::specs::Arguments::entry_of, crate::specs::Arguments::entries_of, crate::proofs::arguments::Floats::of_constants))]
 fn entry(kind: u32, r: f64, i: usize, s: u64) -> f64
     ensures { result ≡ entry_of kind r i s }
 {
@@ -83,6 +85,8 @@ fn entry(kind: u32, r: f64, i: usize, s: u64) -> f64
     }
 }
 
+// The entries of a vector of a kind. It takes every number for a kind, from 11 on that of a spike: an enum of kinds would ask more of callers.
+#[tactic(auto, using(crate::proofs::arguments::States::first, crate::proofs::arguments::States::next, vectors::specs::MemoryLaws::grown_none, vectors::specs::MemoryLaws::grown_step))]
 pub fn vector(level: u32, kind: u32, values: &mut [f64])
     ensures { values.new ≡ vector_of level kind (length values.old) }
 {
@@ -104,8 +108,8 @@ pub enum Range {
     Unit,
 }
 
-// A number of a range. It takes every number for a range, from 5 on that of Range::Unit.
-#[tactic(auto, unfolding(crate::specs::Arguments::argument_of, crate::specs::Arguments::ranges_of))]
+// A number of a range. It takes every number for a range, from 5 on that of Range::Unit, here and in `list`: the enum would ask more of callers.
+#[tactic(auto, unfolding(crate::specs::Arguments::argument_of, crate::specs::Arguments::ranges_of, crate::proofs::arguments::Floats::of_constants))]
 pub fn argument(range: u32, s: u64) -> f64
     ensures { result ≡ argument_of range s }
 {
@@ -121,6 +125,7 @@ pub fn argument(range: u32, s: u64) -> f64
 }
 
 // Numbers of a range, by the generator's states from seed on.
+#[tactic(auto, using(crate::proofs::arguments::States::first, crate::proofs::arguments::States::next, vectors::specs::MemoryLaws::grown_none, vectors::specs::MemoryLaws::grown_step))]
 pub fn list(range: u32, seed: u64, values: &mut [f64])
     ensures { values.new ≡ list_of range seed (length values.old) }
 {

@@ -1,8 +1,11 @@
 -- A call after another, by what begin_order and next_call promise.
 use Prim.Native.Nat.{ℕ, zero, suc, ◌+◌, ◌≤◌, ◌<◌}
-use mathlib.Core.Bool.{Bool, true, false, cond, ◌&&◌, false≢true}
+use mathlib.Core.Bool.{Bool, true, false, cond, false≢true}
 use mathlib.Core.List.{List, [], ◌∷◌, ◌++◌, append_assoc}
-use Rattle.std.specs.Prelude.{Option, None, Some, Result, is_some}
+use Rattle.std.proofs.Common.{append-nil}
+use Rattle.std.specs.Prelude.{Option, None, Some, Result, Ok, Err, IsErrAnd, is_some, ⊤}
+use Rattle.std.specs.Io.KnownBytes.{Appends}
+use Rattle.std.proofs.KnownBytes.{Appends-nil, Appends-trans}
 use mathlib.Core.Path.{◌≡◌, refl, sym, ◌∙◌, ap, subst}
 use native.Mathlib.Omega.{arith}
 use lib.Dec.{ltb}
@@ -20,12 +23,13 @@ use Rattle.run.specs.Calls.{machine_of, attempts_from, begin_of, AfterAdvance, l
 use Rattle.run.specs.Order.{read_order}
 use Rattle.run.specs.Lines.{texts_of, refusal, refusal_at}
 use Rattle.run.specs.OrderLines.{lines_of}
-use Rattle.run.specs.CarryOut.{Answered, refused_call, printed, answered_by, Turn, advance_turn, begin_turn, AfterCall, after_carried, has_room, after_turn, stayed, go_on_of, begin_read, begin_order_of, printed_by, calls_in}
+use Rattle.run.specs.CarryOut.{Answered, refused_call, printed, answered_by, Turn, advance_turn, begin_turn, AfterCall, after_carried, has_room, after_turn, stayed, go_on_of, begin_read, begin_order_of, then_printed, printed_by, calls_in}
 use Rattle.run.specs.CarryOutLaws.{order_prints}
 use Rattle.run.specs.CarryOutEnds.{calls_left, calls_of, next_of, FairNext, go_on_falls, go_on_fair, begin_fair}
-use Rattle.program_io.specs.declared.Written.{Written}
-use Rattle.program_io.specs.Output.{is_all, Sent}
-use Rattle.collapse.specs.Turns.{Lent, is_more, left_of, end_in, end_of, text_in, then_called, call_at, texts_to, CarriedOut}
+use Rattle.program_io.specs.declared.Failure.{Failure}
+use Rattle.program_io.specs.declared.Failure.TheVariants.{Input, Output}
+use Rattle.program_io.specs.Output.{Sent}
+use Rattle.collapse.specs.Turns.{Lent, left_of, end_in, end_of, text_in, then_called, call_at, texts_to, CarriedOut}
 
 -- ---- of work memory a call uses only the length
 advance_work :
@@ -85,18 +89,13 @@ begin_ends order memory work frames out = go (has_room (length frames) (length o
     go true true r = turn_ends (record { lines = refusal 8 ∷ []; next = None }) memory frames out
     go true false r = read r
 
-then_ends : (o : Option Job) (order : List ℕ) (memory work frames : List Float) (out : List ℕ) → Ends (then_called o order memory work frames out)
-then_ends None order memory work frames out = omega arith
-then_ends (Some j) order memory work frames out = go_on_ends j order memory work frames out
-
 -- ---- an order that is being carried out: what was printed of its calls, and what is still to be printed
 module _ (order : List ℕ) (memory work frames : List Float) (out : List ℕ) where
   abbrev begun : AfterCall
   begun = begin_order_of order memory work frames out
 
-  -- a call that left this is the last of those made, and `behind` more are enough
-  pub record Going (c : AfterCall) : Type 0 where
-    pub calls : ℕ
+  -- a call after so many is the last of those made, and `behind` more are enough
+  pub record Going (calls : ℕ) (c : AfterCall) : Type 0 where
     pub behind : ℕ
     pub is : c ≡ call_at order work begun calls
     pub enough : calls_left order (next_of c.answer) ≤ behind
@@ -104,13 +103,12 @@ module _ (order : List ℕ) (memory work frames : List Float) (out : List ℕ) w
     pub fair : FairNext (length frames) (next_of c.answer)
     pub fits : Ends c
 
-  going_begun : Lent (length memory) (length work) (length frames) (length out) → Going begun
+  going_begun : Lent (length memory) (length work) (length frames) (length out) → Going 0 begun
   unfolding call_at texts_to
   going_begun lent =
       let k = calls_in order (read_order order) in
       let l = calls_left order (next_of begun.answer) in
       record {
-        calls = 0;
         behind = k + l;
         is = refl;
         enough = omega arith;
@@ -119,18 +117,60 @@ module _ (order : List ℕ) (memory work frames : List Float) (out : List ℕ) w
         fits = begin_ends order memory work frames out;
       }
 
+  -- the call that begin_order answered
+  pub going_begin :
+      Lent (length memory) (length work) (length frames) (length out) → (r : Result Lines NoRoom) (m f : List Float) (o : List ℕ) →
+      after_carried r m f o ≡ begun → Going 0 (after_carried r m f o)
+  going_begin lent r m f o q = subst (Going 0) (sym q) (going_begun lent)
+
+  -- where its lines were written to their end, so were those of the calls before it
+  pub texts_more :
+      (calls : ℕ) (c : AfterCall) → Going calls c → (held before held' : Option (List ℕ)) → Appends held before (texts_to order work begun calls) →
+      Appends before held' (text_in c) → Appends held held' (texts_to order work begun (suc calls))
+  unfolding texts_to
+  texts_more calls c g held before held' earlier grown =
+      subst (λ (b : AfterCall). Appends held held' (texts_to order work begun calls ++ text_in b)) g.is (Appends-trans held before held' _ _ earlier grown)
+
+  pub nothing_yet : (held : Option (List ℕ)) → Appends held held (texts_to order work begun 0)
+  unfolding texts_to
+  nothing_yet held = Appends-nil held
+
+  -- what is printed of a call, and of those after it, begins with its own lines
+  then_begins :
+      (again : Job → List ℕ) (a : Answered) (o : List ℕ) → (rest : List ℕ) × (then_printed again a o ≡ take (end_in a) o ++ rest)
+  then_begins again (refused_call n) o = ([], refl)
+  then_begins again (printed end None) o = ([], sym (append-nil (take end o)))
+  then_begins again (printed end (Some j)) o = (again j, refl)
+
+  printed_begins : (n : ℕ) (c : AfterCall) → (rest : List ℕ) × (printed_by n order work c ≡ text_in c ++ rest)
+  unfolding printed_by
+  printed_begins zero c = then_begins (λ j. []) c.answer c.out
+  printed_begins (suc n) c = then_begins (λ j. printed_by n order work (go_on_of j order c.memory work c.frames c.out)) c.answer c.out
+
+  -- of a call that left nothing, it is those alone
+  printed_last :
+      (n : ℕ) (a : Answered) (m f : List Float) (o : List ℕ) → next_of a ≡ None →
+      printed_by n order work (record { answer = a; memory = m; frames = f; out = o }) ≡ take (end_in a) o
+  unfolding printed_by
+  printed_last zero (refused_call k) m f o h = refl
+  printed_last (suc n) (refused_call k) m f o h = refl
+  printed_last zero (printed end None) m f o h = refl
+  printed_last (suc n) (printed end None) m f o h = refl
+  printed_last zero (printed end (Some j)) m f o h = absurd (false≢true (sym (ap is_some h)))
+  printed_last (suc n) (printed end (Some j)) m f o h = absurd (false≢true (sym (ap is_some h)))
+
   module _ (memory' work' frames' : List Float) (out' : List ℕ) where
     -- a call that answered so
     abbrev after : Answered → AfterCall
     after a = record { answer = a; memory = memory'; frames = frames'; out = out' }
 
     going_next :
-        (a : Answered) → is_some (next_of a) ≡ true → length work' ≡ length work → length frames' ≡ length frames →
-        Going (after a) → Going (then_called (next_of a) order memory' work' frames' out')
+        (calls : ℕ) (a : Answered) → is_some (next_of a) ≡ true → length work' ≡ length work → length frames' ≡ length frames →
+        Going calls (after a) → Going (suc calls) (then_called (next_of a) order memory' work' frames' out')
     unfolding call_at texts_to printed_by calls_left calls_of
-    going_next (refused_call n) h w f g = absurd (false≢true h)
-    going_next (printed end None) h w f g = absurd (false≢true h)
-    going_next (printed end (Some j)) h w f g = go g.behind g.enough g.owed
+    going_next calls (refused_call n) h w f g = absurd (false≢true h)
+    going_next calls (printed end None) h w f g = absurd (false≢true h)
+    going_next calls (printed end (Some j)) h w f g = go g.behind g.enough g.owed
       where
         c : AfterCall
         c = after (printed end (Some j))
@@ -141,13 +181,12 @@ module _ (order : List ℕ) (memory work frames : List Float) (out : List ℕ) w
         same : next ≡ go_on_of j order memory' work frames' out'
         same = go_on_work j order memory' work' work frames' out' w
 
-        go : (n : ℕ) → calls_of order j ≤ n → texts_to order work begun g.calls ++ printed_by n order work c ≡ texts_of (lines_of order) → Going next
+        go : (n : ℕ) → calls_of order j ≤ n → texts_to order work begun calls ++ printed_by n order work c ≡ texts_of (lines_of order) → Going (suc calls) next
         go zero m o = absurd (omega arith)
         go (suc n) m o =
             let roomy = subst (λ (k : ℕ). FairNext k (Some j)) (sym f) g.fair in
-            let t = texts_to order work begun g.calls in
+            let t = texts_to order work begun calls in
             record {
-              calls = suc g.calls;
               behind = n;
               is = same ∙ ap (λ (b : AfterCall). then_called (next_of b.answer) order b.memory work b.frames b.out) g.is;
               enough = omega (arith, go_on_falls j order memory' work' frames' out' roomy);
@@ -160,85 +199,89 @@ module _ (order : List ℕ) (memory work frames : List Float) (out : List ℕ) w
               fits = go_on_ends j order memory' work' frames' out';
             }
 
-    printed_last :
-        (n : ℕ) (a : Answered) → is_some (next_of a) ≡ false → printed_by n order work (after a) ≡ text_in (after a)
-    unfolding printed_by
-    printed_last zero (refused_call k) h = refl
-    printed_last (suc n) (refused_call k) h = refl
-    printed_last zero (printed end None) h = refl
-    printed_last (suc n) (printed end None) h = refl
-    printed_last zero (printed end (Some j)) h = absurd (false≢true (sym h))
-    printed_last (suc n) (printed end (Some j)) h = absurd (false≢true (sym h))
-
-    none_left : (o : Option Job) → is_some o ≡ false → o ≡ None
-    none_left None h = refl
-    none_left (Some j) h = absurd (false≢true (sym h))
-
-    pub going_ended :
-        (call : Result Lines NoRoom) → Going (after_carried call memory' frames' out') →
-        (written : Written) → Sent (end_of call) written → (is_all written ≡ true → is_more call ≡ false) →
-        CarriedOut order memory work frames out memory' frames' out' written
-    unfolding texts_to
-    going_ended call g written s h =
-        let t = texts_to order work begun g.calls in
-        record {
-          calls = g.calls;
-          last = call;
-          is = g.is;
-          sent = s;
-          ends = λ w. none_left (left_of call) (h w);
-          prints =
-              λ w.
-              ap (λ (b : AfterCall). t ++ text_in b) (sym g.is)
-              ∙ ap (λ (x : List ℕ). t ++ x) (sym (printed_last g.behind (answered_by call) (h w)))
-              ∙ g.owed;
-        }
-
     -- each call leaves fewer to make
     falls :
-        (a : Answered) → is_some (next_of a) ≡ true → length frames' ≡ length frames → Going (after a) →
+        (calls : ℕ) (a : Answered) → is_some (next_of a) ≡ true → length frames' ≡ length frames → Going calls (after a) →
         (r : Result Lines NoRoom) (m f : List Float) (o : List ℕ) → after_carried r m f o ≡ then_called (next_of a) order memory' work' frames' out' →
         calls_left order (left_of r) < calls_left order (next_of a)
     unfolding calls_left
-    falls (refused_call n) h l g r m f o q = absurd (false≢true h)
-    falls (printed end None) h l g r m f o q = absurd (false≢true h)
-    falls (printed end (Some j)) h l g r m f o q =
+    falls calls (refused_call n) h l g r m f o q = absurd (false≢true h)
+    falls calls (printed end None) h l g r m f o q = absurd (false≢true h)
+    falls calls (printed end (Some j)) h l g r m f o q =
         subst (λ (c : AfterCall). calls_left order (next_of c.answer) < calls_of order j) (sym q)
         (go_on_falls j order memory' work' frames' out' (subst (λ (k : ℕ). FairNext k (Some j)) (sym l) g.fair))
 
-    pub going_falls :
-        (call : Result Lines NoRoom) → is_more call ≡ true → length frames' ≡ length frames → Going (after_carried call memory' frames' out') →
-        (r : Result Lines NoRoom) (m f : List Float) (o : List ℕ) → after_carried r m f o ≡ then_called (left_of call) order memory' work' frames' out' →
-        calls_left order (left_of r) < calls_left order (left_of call)
-    going_falls call h l g r m f o q = falls (answered_by call) h l g r m f o q
+    -- ---- after a call that left this job
+    module _
+        (calls : ℕ) (call : Result Lines NoRoom) (g : Going calls (after_carried call memory' frames' out')) (job : Job) (left : left_of call ≡ Some job)
+        (lf : length frames' ≡ length frames) (r : Result Lines NoRoom) (m f : List Float) (o : List ℕ)
+        (q : after_carried r m f o ≡ go_on_of job order memory' work' frames' out')
+      where
+        called : after_carried r m f o ≡ then_called (left_of call) order memory' work' frames' out'
+        called = q ∙ ap (λ (x : Option Job). then_called x order memory' work' frames' out') (sym left)
 
--- ---- the program's loop: no job is left where its test failed after all was written
-pub stopped : (written more test : Bool) → test ≡ (written && more) → test ≡ false → written ≡ true → more ≡ false
-stopped true more test e h w = sym e ∙ h
-stopped false more test e h w = absurd (false≢true w)
+        pub going_on : length work' ≡ length work → Going (suc calls) (after_carried r m f o)
+        going_on lw = subst (Going (suc calls)) (sym called) (going_next calls (answered_by call) (ap is_some left) lw lf g)
 
--- ---- what the parts promise, by the call
-module _ (order : List ℕ) (memory work frames : List Float) (out : List ℕ) where
-  pub begun_ends :
-      (r : Result Lines NoRoom) (m f : List Float) (o : List ℕ) → after_carried r m f o ≡ begin_order_of order memory work frames out → end_of r ≤ length o
-  begun_ends r m f o q = subst Ends (sym q) (begin_ends order memory work frames out)
+        pub going_falls : calls_left order (left_of r) < calls_left order (left_of call)
+        going_falls = falls calls (answered_by call) (ap is_some left) lf g r m f o called
 
-  pub next_ends :
-      (call r : Result Lines NoRoom) (m f : List Float) (o : List ℕ) → after_carried r m f o ≡ then_called (left_of call) order memory work frames out →
-      end_of r ≤ length o
-  next_ends call r m f o q = subst Ends (sym q) (then_ends (left_of call) order memory work frames out)
+  -- ---- the end: no job is left, or the lines of a call were cut
+  module _
+      (memory' frames' : List Float) (out' : List ℕ) (calls : ℕ) (call : Result Lines NoRoom)
+      (g : Going calls (after_carried call memory' frames' out')) (held before held' : Option (List ℕ))
+      (earlier : Appends held before (texts_to order work begun calls))
+    where
+      pub carried :
+          left_of call ≡ None → Appends before held' (take (end_of call) out') →
+          CarriedOut order memory work frames out memory' frames' out' held held' (Ok tt)
+      unfolding texts_to
+      carried none grown =
+          let t = texts_to order work begun calls in
+          let whole : texts_to order work begun (suc calls) ≡ texts_of (lines_of order) =
+          ap (λ (b : AfterCall). t ++ text_in b) (sym g.is)
+          ∙ ap (λ (l : List ℕ). t ++ l) (sym (printed_last g.behind (answered_by call) memory' frames' out' none))
+          ∙ g.owed in
+          record {
+            calls = calls;
+            last = call;
+            is = g.is;
+            fits = g.fits;
+            before = before;
+            earlier = earlier;
+            sent = grown;
+            ends = λ _. none;
+            prints = λ _. whole;
+            all = subst (Appends held held') whole (texts_more calls (after_carried call memory' frames' out') g held before held' earlier grown);
+          }
 
-  -- the call that begin_order answered, and one after a call that left a job
-  pub going_begin :
-      Lent (length memory) (length work) (length frames) (length out) → (r : Result Lines NoRoom) (m f : List Float) (o : List ℕ) →
-      after_carried r m f o ≡ begin_order_of order memory work frames out → Going order memory work frames out (after_carried r m f o)
-  going_begin lent r m f o q = subst (Going order memory work frames out) (sym q) (going_begun order memory work frames out lent)
+      cut_by :
+          (failure : Failure) → Sent before held' (take (end_of call) out') (Err failure) →
+          CarriedOut order memory work frames out memory' frames' out' held held' (Err failure)
+      cut_by (Input error) cut = absurd cut
+      cut_by (Output error) (part, rest, is, more, grown) =
+          let c = after_carried call memory' frames' out' in
+          let t = texts_to order work begun calls in
+          let (later, lines) = printed_begins g.behind c in
+          let all : texts_of (lines_of order) ≡ (t ++ part) ++ (rest ++ later) =
+          sym g.owed ∙ ap (λ (l : List ℕ). t ++ l) (lines ∙ ap (λ (l : List ℕ). l ++ later) is ∙ append_assoc part rest later)
+          ∙ sym (append_assoc t part (rest ++ later)) in
+          record {
+            calls = calls;
+            last = call;
+            is = g.is;
+            fits = g.fits;
+            before = before;
+            earlier = earlier;
+            sent = (part, rest, is, more, grown);
+            ends = λ ok. absurd (false≢true ok);
+            prints = λ ok. absurd (false≢true ok);
+            all = (t ++ part, rest ++ later, all, omega (arith, length-append rest later, more), Appends-trans held before held' t part earlier grown);
+          }
 
-  pub going_on :
-      (memory' work' frames' : List Float) (out' : List ℕ) (call : Result Lines NoRoom) → is_more call ≡ true →
-      length work' ≡ length work → length frames' ≡ length frames →
-      Going order memory work frames out (after_carried call memory' frames' out') → (r : Result Lines NoRoom) (m f : List Float) (o : List ℕ) →
-      after_carried r m f o ≡ then_called (left_of call) order memory' work' frames' out' →
-      Going order memory work frames out (after_carried r m f o)
-  going_on memory' work' frames' out' call h w k g r m f o q =
-      subst (Going order memory work frames out) (sym q) (going_next order memory work frames out memory' work' frames' out' (answered_by call) h w k g)
+      pub carried_part :
+          (failure : Failure) → Sent before held' (take (end_of call) out') (Err failure) → (r : Result ⊤ Failure) → IsErrAnd r (λ e. e ≡ failure) →
+          CarriedOut order memory work frames out memory' frames' out' held held' r
+      carried_part failure cut (Ok x) e = absurd e
+      carried_part failure cut (Err f) e =
+          subst (λ (d : Failure). CarriedOut order memory work frames out memory' frames' out' held held' (Err d)) (sym e) (cut_by failure cut)

@@ -1,6 +1,6 @@
 -- 01, "Orders (added)": the program's calls, one after another, and what it has printed of them.
-use Rattle.std.specs.Prelude.{ℕ, zero, suc, ◌≤◌, Bool, true, List, [], ◌++◌, ◌≡◌, Float, take}
-use Rattle.std.specs.Prelude.{Option, None, Some, Result, is_some}
+use Rattle.std.specs.Prelude.{ℕ, zero, suc, ◌≤◌, List, [], ◌++◌, ◌≡◌, Float, length, take, ⊤}
+use Rattle.std.specs.Prelude.{Option, None, Some, Result, IsOk}
 use Rattle.run.specs.declared.carry_out.Job.{Job}
 use Rattle.run.specs.declared.carry_out.Lines.{Lines}
 use Rattle.run.specs.declared.carry_out.NoRoom.{NoRoom}
@@ -8,8 +8,9 @@ use Rattle.run.specs.Lines.{texts_of}
 use Rattle.run.specs.OrderLines.{lent_state, lent_work, lent_frames, lines_of}
 use Rattle.run.specs.CarryOut.{Answered, refused_call, printed, AfterCall, answered_by, after_carried, room_for, stayed, go_on_of, begin_order_of}
 use Rattle.run.specs.CarryOutEnds.{next_of}
-use Rattle.program_io.specs.declared.Written.{Written}
-use Rattle.program_io.specs.Output.{is_all, Sent}
+use Rattle.std.specs.Io.KnownBytes.{Appends}
+use Rattle.program_io.specs.declared.Failure.{Failure}
+use Rattle.program_io.specs.Output.{Sent}
 
 -- "lends for level 7 and 8,192 frame numbers", and room for the lines of any call
 pub record Lent (memory work frames out : ℕ) : Type 0 where
@@ -22,10 +23,6 @@ pub record Lent (memory work frames out : ℕ) : Type 0 where
 -- what is left of the order
 abbrev pub left_of : Result Lines NoRoom → Option Job
 left_of c = next_of (answered_by c)
-
--- whether a job is left
-abbrev pub is_more : Result Lines NoRoom → Bool
-is_more c = is_some (left_of c)
 
 -- where the lines end in the lent bytes
 abbrev pub end_in : Answered → ℕ
@@ -56,20 +53,25 @@ module _ (order : List ℕ) (work : List Float) (begun : AfterCall) where
   texts_to (suc k) = texts_to k ++ text_in (call_at k)
 
 -- ---- the whole order
--- The memories are as the last of these calls left them, and its lines were written to their end or until a write took nothing. If to their end,
--- no job is left, and the lines of the calls are those of the order.
+-- The memories are as the last of these calls left them. The output got the lines of the calls before it, and then its own to their end, or a
+-- part of them where a write failed or took nothing. If to their end, no job is left, and the lines of the calls are those of the order.
 pub record CarriedOut
-    (order : List ℕ) (memory work frames : List Float) (out : List ℕ) (memory' frames' : List Float) (out' : List ℕ) (written : Written)
+    (order : List ℕ) (memory work frames : List Float) (out : List ℕ) (memory' frames' : List Float) (out' : List ℕ)
+    (held held' : Option (List ℕ)) (result : Result ⊤ Failure)
     : Type 0 where
   pub calls : ℕ
   pub last : Result Lines NoRoom
   pub is : after_carried last memory' frames' out' ≡ call_at order work (begin_order_of order memory work frames out) calls
-  pub sent : Sent (end_of last) written
-  pub ends : is_all written ≡ true → left_of last ≡ None
-  pub prints : is_all written ≡ true → texts_to order work (begin_order_of order memory work frames out) (suc calls) ≡ texts_of (lines_of order)
+  pub fits : end_of last ≤ length out'
+  pub before : Option (List ℕ)
+  pub earlier : Appends held before (texts_to order work (begin_order_of order memory work frames out) calls)
+  pub sent : Sent before held' (take (end_of last) out') result
+  pub ends : IsOk result → left_of last ≡ None
+  pub prints : IsOk result → texts_to order work (begin_order_of order memory work frames out) (suc calls) ≡ texts_of (lines_of order)
+  pub all : Sent held held' (texts_of (lines_of order)) result
 
 -- the same, in memories that the caller does not see
-pub record Answers (order : List ℕ) (written : Written) : Type 0 where
+pub record Answers (order : List ℕ) (held held' : Option (List ℕ)) (result : Result ⊤ Failure) : Type 0 where
   pub memory : List Float
   pub work : List Float
   pub frames : List Float
@@ -77,4 +79,4 @@ pub record Answers (order : List ℕ) (written : Written) : Type 0 where
   pub memory' : List Float
   pub frames' : List Float
   pub out' : List ℕ
-  pub carried : CarriedOut order memory work frames out memory' frames' out' written
+  pub carried : CarriedOut order memory work frames out memory' frames' out' held held' result

@@ -1,89 +1,104 @@
-// Writes the bytes of an order from its row of the table and its commands.
-use crate::sequences::commands;
-use crate::table::WHOLE;
+// A draft: what an order of the table is written from. oracle/orders/draft.rs does the same.
+use std::alloc::Global;
+use std::io;
 
-// Commands are hexadecimal digits, the first the highest of 16. 0: the end. 1 to 9: that command. A, B, C: the bytes 00,
-// 0A, FF. D: the switch 2. E, F: advances at every place before 4,090, before 4,095.
-const CODES: [u8; 16] = [0, 1, 2, 3, 4, 5, 6, 7, 8, 9, 0, 10, 255, 6, 8, 8];
-
-// How many bytes a digit writes, and up to where it is written again.
-const SIZES: [usize; 16] = [0, 9, 2, 9, 9, 2, 2, 1, 5, 1, 1, 1, 1, 2, 5, 5];
-
-const LIMITS: [usize; 16] = [0, 0, 0, 0, 0, 0, 0, 0, 0, 0, 0, 0, 0, 0, 4090, 4095];
-
-// The byte to write, the digits to come, the rest of the operand, how many bytes of the command are left with this one,
-// and where the command ends.
+// The operands of the six settings, floats by their bits.
 #[derive(Clone, Copy)]
-struct Pen {
-    byte: u8,
-    digits: u64,
-    operand: u64,
-    left: usize,
-    end: usize,
+pub struct Asked {
+    pub amplitude: u64,
+    pub level: u8,
+    pub max_time: u64,
+    pub interval: u64,
+    pub dx_level: u8,
+    pub skip: u8,
 }
 
-// Writes order k, and zeros after its commands. Answers how many bytes it has: all of its commands, or the length of its
-// row, a byte more for each order after the row's first.
-pub fn write(k: u64, row: &[u64; 12], bytes: &mut [u8; 4100]) -> usize {
-    let mut pen = Pen {
-        byte: 0,
-        digits: commands(k, row[7]),
-        operand: 0,
-        left: 0,
-        end: 0,
-    };
-    for i in 0..4100usize {
-        pen = moved(row, pen);
-        bytes[i] = pen.byte;
+// Amplitude, level, max time, interval, dx level and skip.
+pub type Settings = (u64, u8, u64, u64, u8, u8);
+
+impl From<Settings> for Asked {
+    fn from(settings: Settings) -> Asked {
+        let (amplitude, level, max_time, interval, dx_level, skip) = settings;
+        Asked {
+            amplitude,
+            level,
+            max_time,
+            interval,
+            dx_level,
+            skip,
+        }
     }
-    if row[10] == WHOLE {
-        return pen.end;
-    }
-    row[10].wrapping_add(k.wrapping_sub(row[0])) as usize
 }
 
-fn moved(row: &[u64; 12], pen: Pen) -> Pen {
-    if pen.left > 1 {
-        return Pen {
-            byte: (pen.operand % 256) as u8,
-            digits: pen.digits,
-            operand: pen.operand / 256,
-            left: pen.left - 1,
-            end: pen.end,
+// The settings; the budget of an advance that stands at an even position, and at an odd one.
+#[derive(Clone, Copy)]
+pub struct Draft {
+    pub asked: Asked,
+    pub even: u32,
+    pub odd: u32,
+}
+
+impl Draft {
+    // The bytes of an order with these commands. 1 to 9: that command. A, B, C: the bytes 00, 0A, FF. D: the switch 2. E, F:
+    // advances at every place before 4,090, before 4,095.
+    pub fn bytes(&self, alloc: Global, commands: &[u8]) -> io::Result<Vec<u8>> {
+        let mut bytes = Vec::new(alloc);
+        for command in commands {
+            self.put(*command, &mut bytes)?;
+        }
+        Ok(bytes)
+    }
+
+    fn put(&self, command: u8, bytes: &mut Vec<u8>) -> io::Result<()> {
+        let asked = self.asked;
+        match command {
+            b'1' => float(1, asked.amplitude, bytes),
+            b'2' => byte(2, asked.level, bytes),
+            b'3' => float(3, asked.max_time, bytes),
+            b'4' => float(4, asked.interval, bytes),
+            b'5' => byte(5, asked.dx_level, bytes),
+            b'6' => byte(6, asked.skip, bytes),
+            b'7' => Ok(bytes.push(7)?),
+            b'8' => self.advance(bytes),
+            b'9' => Ok(bytes.push(9)?),
+            b'A' => Ok(bytes.push(0x00)?),
+            b'B' => Ok(bytes.push(0x0A)?),
+            b'C' => Ok(bytes.push(0xFF)?),
+            b'D' => byte(6, 2, bytes),
+            b'E' => self.advances_before(4090, bytes),
+            b'F' => self.advances_before(4095, bytes),
+            _ => Ok(()),
+        }
+    }
+
+    fn advance(&self, bytes: &mut Vec<u8>) -> io::Result<()> {
+        let budget = if bytes.len() % 2 == 0 {
+            self.even
+        } else {
+            self.odd
         };
+        bytes.push(8)?;
+        bytes.extend_from_slice(&budget.to_le_bytes())?;
+        Ok(())
     }
-    next_command(row, pen)
-}
 
-// The highest digit is the one at 2^60.
-fn next_command(row: &[u64; 12], pen: Pen) -> Pen {
-    let codes = CODES;
-    let sizes = SIZES;
-    let digit = (pen.digits / 1152921504606846976) as usize;
-    let size = sizes[digit];
-    let end = pen.end.wrapping_add(size);
-    Pen {
-        byte: codes[digit],
-        digits: digits_after(pen.digits, digit, end),
-        operand: operand(row, digit, pen.end),
-        left: size,
-        end: end,
+    // An advance has five bytes.
+    fn advances_before(&self, end: usize, bytes: &mut Vec<u8>) -> io::Result<()> {
+        for _ in 0..end.saturating_sub(bytes.len()).div_ceil(5) {
+            self.advance(bytes)?;
+        }
+        Ok(())
     }
 }
 
-fn digits_after(digits: u64, digit: usize, end: usize) -> u64 {
-    let limits = LIMITS;
-    if end < limits[digit % 16] {
-        return digits;
-    }
-    digits % 1152921504606846976 * 16
+fn byte(command: u8, operand: u8, bytes: &mut Vec<u8>) -> io::Result<()> {
+    bytes.push(command)?;
+    bytes.push(operand)?;
+    Ok(())
 }
 
-// What follows a command that stands at `at`.
-fn operand(row: &[u64; 12], digit: usize, at: usize) -> u64 {
-    match digit {
-        8 | 14 | 15 => row[8 + at % 2],
-        13 => 2,
-        _ => row[digit % 12],
-    }
+fn float(command: u8, bits: u64, bytes: &mut Vec<u8>) -> io::Result<()> {
+    bytes.push(command)?;
+    bytes.extend_from_slice(&bits.to_le_bytes())?;
+    Ok(())
 }

@@ -1,91 +1,62 @@
 // All sequences of one order's six settings: they have one spelling.
-use crate::bytes::{least, with};
-use crate::draft::write;
-use crate::lent::{Answered, call, number, print};
-use crate::table::WHOLE;
+use crate::digest::with;
+use crate::lent::{Answered, MORE, call};
+use std::alloc::Global;
 use std::io;
 
 const SEQUENCES: usize = 720;
 
-// A row as in table.rt, without its commands. The floats are NaNs with a payload; the budgets are 0 and 04030201.
-#[rattlefmt::skip]
-const ROW: [u64; 12] = [
-    0, 0x7FF9123456789ABC, 7, 0xFFF4A5B6C7D8E9FA, 0xFFFB2D3E4F506172, 3, 1, 0, 0, 67305985, WHOLE, 0,
+// The floats are NaNs with a payload.
+const SETTINGS: [&[u8]; 6] = [
+    &[1, 0xBC, 0x9A, 0x78, 0x56, 0x34, 0x12, 0xF9, 0x7F],
+    &[2, 7],
+    &[3, 0xFA, 0xE9, 0xD8, 0xC7, 0xB6, 0xA5, 0xF4, 0xFF],
+    &[4, 0x72, 0x61, 0x50, 0x4F, 0x3E, 0x2D, 0xFB, 0xFF],
+    &[5, 3],
+    &[6, 1],
 ];
 
-// What the orders so far add up to: a digest of all their bytes, and for how many the call is as for the first.
-#[derive(Clone, Copy)]
-struct Sum {
-    digest: u64,
-    same: u64,
-}
+// 07, advances by 0, 04030201 and 5, 09.
+const CALLS: [u8; 17] = [7, 8, 0, 0, 0, 0, 8, 1, 2, 3, 4, 8, 5, 0, 0, 0, 9];
 
-pub fn line(rt: &impl Print) -> io::Result<()> {
-    let mut input = [0u8; 4100];
-    let length = write_order(0, &mut input);
-    let first = spelled(length, &input);
-    let sum = of_all(first);
-    number(rt, "sequences ", SEQUENCES as u64)?;
-    number(rt, " bytes ", length as u64)?;
-    number(rt, " ", sum.digest)?;
-    print!(rt; " spelled")?;
-    print(rt, first)?;
-    number(rt, " same ", sum.same)?;
-    println!(rt)
-}
-
-fn of_all(first: Answered) -> Sum {
-    let mut input = [0u8; 4100];
-    let mut sum = Sum { digest: 1, same: 0 };
+// How many sequences there are, how many bytes each has and a digest of all their bytes; the call for the first, and for how
+// many it is the same.
+pub fn line(rt: &impl Print, alloc: Global) -> io::Result<()> {
+    let first = order(alloc, 0)?;
+    let n = first.len();
+    let answered = spelled(&first);
+    let mut digest = 1;
+    let mut same = 0u64;
     for k in 0..SEQUENCES {
-        let length = write_order(k, &mut input);
-        sum = with_order(sum, length, &input, first);
+        let order = order(alloc, k)?;
+        digest = with(digest, &order);
+        same = same.wrapping_add(u64::from(spelled(&order) == answered));
     }
-    sum
+    print!(rt; "sequences {SEQUENCES} bytes {n} {digest} ")?;
+    println!(rt; "spelled {answered} same {same}")
 }
 
-fn with_order(sum: Sum, length: usize, input: &[u8; 4100], first: Answered) -> Sum {
-    let whole = &input[..];
-    let end = least(length, whole.len());
-    let made = spelled(length, input);
-    Sum {
-        digest: with(sum.digest, &whole[0..end]),
-        same: counted(sum.same, made, first),
+fn spelled(order: &[u8]) -> Answered {
+    call(order, order.len() + MORE)
+}
+
+// The order with its settings in sequence k.
+fn order(alloc: Global, k: usize) -> io::Result<Vec<u8>> {
+    let mut settings = SETTINGS;
+    arrange(&mut settings, k);
+    let mut bytes = Vec::new(alloc);
+    for setting in settings {
+        bytes.extend_from_slice(setting)?;
     }
+    bytes.extend_from_slice(&CALLS)?;
+    Ok(bytes)
 }
 
-fn spelled(length: usize, input: &[u8; 4100]) -> Answered {
-    let whole = &input[..];
-    let end = least(length, whole.len());
-    call(&whole[0..end], end + 3)
-}
-
-// The order with its settings in sequence k. The third of its budgets is made 5.
-fn write_order(k: usize, input: &mut [u8; 4100]) -> usize {
-    let mut row = ROW;
-    row[7] = digits(k) % 16777216 * 1099511627776 + 0x7888900000;
-    let length = write(0, &row, input);
-    input[45] = 5;
-    length
-}
-
-// The digits 1 to 6 in sequence k.
-fn digits(k: usize) -> u64 {
-    let mut left = [1u64, 2, 3, 4, 5, 6];
+// At each place any of those from there on; k has their numbers.
+fn arrange(settings: &mut [&[u8]; 6], k: usize) {
     let mut rest = k;
-    let mut taken = 0;
     for i in 0..6usize {
-        let j = i.wrapping_add(rest % (6 - i)) % 6;
-        taken = taken % 1152921504606846976 * 16 + left[j] % 16;
-        left[j] = left[i];
-        rest = rest / (6 - i);
+        settings.swap(i, i + rest % (6 - i));
+        rest /= 6 - i;
     }
-    taken
-}
-
-fn counted(count: u64, made: Answered, first: Answered) -> u64 {
-    if made.digest == first.digest && made.answer == first.answer {
-        return count.wrapping_add(1);
-    }
-    count
 }

@@ -24,7 +24,7 @@ impl From<Misread> for SpellError {
     }
 }
 
-// A command byte and its operand. Answers where they end.
+// A command byte of document 01 and its operand. Answers where they end.
 fn put_command(code: u8, operand: &[u8], out: &mut [u8], at: usize) -> usize
     requires { at + (1 + length operand.now) ≤ length out.old }
     ensures { (result ≡ at + (1 + length operand.now)) × Wrote at (code ∷ operand.now) out.old out.new }

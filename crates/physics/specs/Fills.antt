@@ -7,7 +7,7 @@ use Rattle.std.proofs.Math.Nat.{add-suc}
 use native.Mathlib.Omega.{arith}
 use Rattle.std.proofs.Math.Seq.{set_comm}
 use Rattle.vectors.specs.Memory.{tab, part, put}
-use Rattle.vectors.specs.MemoryLaws.{fill, apart, apart_or, fill_more, fill_put, length_tab, length-put_is, part_fill_apart, get_d_part, read_above, Filled, Grown, grown_step}
+use Rattle.vectors.specs.MemoryLaws.{fill, apart, apart_or, fill_more, fill_put, length_tab, length-put_is, part_fill_apart, get_d_part, read_above, Filled, step, Grown, grown_step}
 
 off : (a b n i : ℕ) → apart a n b n ≡ true → i < n → (a + i < b) ⊎ (b + i ≤ a + i)
 off a b n i e h = elim (apart_or a n b n e) [ inl l ↦ inl (omega arith) | inr l ↦ inr (omega arith) ]
@@ -42,6 +42,12 @@ module _ {A : Type 0} where
   grown_pair {at} {i₀} {i} {g} {xs₀} {xs} {k} {l} {u} {v} G p q x y =
       let e : i + 1 + 1 ≡ i + 2 = omega arith in
       rw e at (grown_step {v = v} (grown_step {v = u} G p x) q y)
+
+  -- the same, both read before they are stored
+  pub filled_pair : {at i : ℕ} {g : ℕ → A} {E xs : List A} {k l : ℕ} {u v : A} → Filled at i g E xs → k ≡ at + i → l ≡ at + (i + 1) → u ≡ g i → v ≡ g (i + 1) → Filled at (i + 2) g E (slice_set (slice_set xs k u) l v)
+  filled_pair {at} {i} {g} {E} {xs} F p q x y =
+      let e : i + 1 + 1 ≡ i + 2 = omega arith in
+      rw e at (step (step F p x) q y)
 
   -- a part apart from what is written, and an element of it
   pub filled2_part : {a b i : ℕ} {f g : ℕ → A} {E xs : List A} (n c m : ℕ) (d : A) → Filled2 a b i f g E xs → i ≤ n → apart a n c m ≡ true → apart b n c m ≡ true → part c m xs ≡ part c m E

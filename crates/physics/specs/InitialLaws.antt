@@ -5,6 +5,7 @@ use borrow.Rule.Slice.PartMut.{put_mid}
 use Rattle.std.specs.Float.{nan, binary64}
 use Rattle.std.specs.Float.Ieee.{mul}
 use Rattle.vectors.specs.Constants.{whole}
+use Rattle.vectors.specs.DissipationLaws.{scaled_by}
 use Rattle.vectors.specs.Exp.{exp_of}
 use Rattle.vectors.specs.Fault.{fault_of}
 use Rattle.vectors.specs.FaultLaws.{accepted}
@@ -84,3 +85,7 @@ pub room_to_build_lem : (level work : ℕ) → 0 ≡ fault_of level (room_to_bui
 room_to_build_lem level work e =
     let g = accepted level (room_to_build level work) e in
     record { ranged = g.ranged; work = leb-true (40 * points_of level) work g.fitting }
+
+pub scaled_map : (factor : Float) (xs : List Float) → scaled_by factor xs ≡ map (mul binary64 factor) xs
+unfolding scaled_by
+scaled_map factor xs = tab_map (length xs) (mul binary64 factor) xs refl

@@ -17,6 +17,7 @@ pub mod Nan
 pub mod NanLaws
 pub mod NeighbourLaws
 pub mod PassLaws
+pub mod Passed
 pub mod Passes
 pub mod Quadrature
 pub mod Rk4
@@ -27,6 +28,7 @@ pub mod Slots
 pub mod State
 pub mod StateLaws
 pub mod StepLaws
+pub mod StepPassed
 pub mod StepPasses
 pub mod Stepped
 pub mod Store

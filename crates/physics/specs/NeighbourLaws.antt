@@ -84,6 +84,15 @@ wrote_three n k xs ys zs w l m o h e =
     let p = length-append ys zs in
     both (one n k w xs l (omega arith)) (wrote_two n (suc k) ys zs v m o (omega arith) (e ∙ next n k w xs (ys ++ zs) l (omega arith)))
 
+-- three slots of v, from j on, copied to those from k on
+pub copied_three : (n k j : ℕ) (v w : List Float) {w' : List Float} → j * n + 3 * n ≤ length v → k * n + 3 * n ≤ length w → w' ≡ put (k * n) (part (j * n) (3 * n) v) w
+    → Became n (λ S. upd (suc (suc k)) (slots n v (suc (suc j))) (upd (suc k) (slots n v (suc j)) (upd k (slots n v j) S))) w w'
+copied_three n k j v w g h e =
+    let p = suc-mul j n in
+    let q = suc-mul (suc j) n in
+    wrote_three n k _ _ _ w (length_slot n j v (omega arith)) (length_slot n (suc j) v (omega arith)) (length_slot n (suc (suc j)) v (omega arith)) h
+    (e ∙ ap (λ (x : List Float). put (k * n) x w) (three_slots n v j))
+
 -- ---- advanced
 
 tab_append : (n m : ℕ) (f g h : ℕ → Float) → ((i : ℕ) → i < n → f i ≡ g i) → ((i : ℕ) → i < m → f (n + i) ≡ h i) → tab (n + m) f ≡ tab n g ++ tab m h

@@ -203,23 +203,17 @@ pub record Run (n lo hi back : ℕ) : Type 0 where
   pub leftmost : back ≤ lo
   pub windows : (i : ℕ) → lo ≤ i → i < hi → Window n i back
 
--- room for the slots, and n numbers from from on and from to on that lie apart from them and from the radial correction
-pub record HalfRun (n len from to : ℕ) : Type 0 where
+-- n numbers from from on, and as many from to on, after them, in a memory of len
+pub record Later (len from to n : ℕ) : Type 0 where
   pub many : 9 ≤ n
-  pub fits : slot_count * n ≤ len
-  pub source : from + n ≤ len
-  pub target : to + n ≤ correction_slot * n
-  pub far : apart to n from n ≡ true
+  pub after : from + n ≤ to
+  pub target : to + n ≤ len
+
+-- a call at a point i below n gives c i, where post i x says that x is what it may give
+abbrev pub Gives : (ℕ → Float → Type 0) → ℕ → (ℕ → Float) → Type 0
+Gives post n c = (i : ℕ) (x : Float) → i < n → post i x → x ≡ c i
 
 -- ---- the equations of motion, by their definitions
-
--- ready, with the gradient of the field in its slot
-pub record ReadyEquations (level n : ℕ) (w : List Float) : Type 0 where
-  pub many : 9 ≤ n
-  pub odd : n % 2 ≡ 1
-  pub fits : slot_count * n ≤ length w
-  pub ready : Ready level n w
-  pub gradient : slots n w gradient_slot ≡ radial_gradient_of level (slots n w field_slot)
 
 abbrev pub constraints_in : Slots → Constraints
 constraints_in S =

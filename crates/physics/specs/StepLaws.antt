@@ -1,7 +1,7 @@
 -- The slots after the passes of a step are the state that `rk4_of` defines.
 use Rattle.std.specs.Prelude.{◌≡◌, ℕ, ◌*◌, ◌≤◌, List, ◌++◌, length, take, drop, Float}
 use Rattle.std.proofs.Math.Path.{refl, ap}
-use Rattle.std.proofs.Common.{sym, ◌∙◌}
+use Rattle.std.proofs.Common.{◌∙◌}
 use native.Mathlib.Omega.{arith}
 use Rattle.std.specs.Float.{nan, binary64}
 use Rattle.std.specs.Float.Ieee.{add, sub, mul, div, of_int}
@@ -16,32 +16,13 @@ use Rattle.physics.specs.Equations.{Equations, equations_of, bounded_of}
 use Rattle.physics.specs.State.{State, lay_out}
 use Rattle.physics.specs.Rk4.{stored_constraints, state_of, stage_of, weighted_sum_of, rk4_of}
 use Rattle.physics.specs.NeighbourLaws.{one_more}
-use Rattle.physics.specs.Passes.{Room, Ready, ReadyEquations, gradients, grids}
-use Rattle.physics.specs.PassLaws.{renamed, ready_after}
+use Rattle.physics.specs.Passes.{Room, Ready, gradients, grids}
+use Rattle.physics.specs.PassLaws.{renamed}
 use Rattle.physics.specs.SlotNumbers.{field_slot, momentum_slot, alternate_mass_slot, energy_density_slot, mass_slot, radial_factor_slot, lapse_slot, char_speed_slot, gradient_slot, dt_field_slot, dt_momentum_slot, dt_mass_slot, field_sum_slot, momentum_sum_slot, mass_sum_slot, points_slot, correction_slot}
 use Rattle.physics.specs.Slots.{Slots, slots, upd, Became}
-use Rattle.physics.specs.StepPasses.{ReadyStep, advanced_by_sum, doubles, first_stages, stages, doubled_stages, lasts, steps}
+use Rattle.physics.specs.StepPasses.{advanced_by_sum, doubles, first_stages, stages, doubled_stages, lasts, steps}
 use Rattle.physics.specs.Vector.{at, advanced_of}
 use Rattle.physics.specs.VectorLaws.{tab_same, tab_at}
-
--- ---- what the next pass may rely on
-module _ {level n : ℕ} {f : Slots → Slots} {w w' : List Float} where
-  pub equations_ready : Ready level n w → Became n f w w' → f (slots n w) points_slot ≡ slots n w points_slot → f (slots n w) correction_slot ≡ slots n w correction_slot
-      → f (slots n w) gradient_slot ≡ radial_gradient_of level (f (slots n w) field_slot) → ReadyEquations level n w'
-  equations_ready R B p q g =
-      let R' = ready_after R B p q in
-      record {
-        many = R'.many;
-        odd = R'.odd;
-        fits = R'.fits;
-        ready = R';
-        gradient = ap (λ (S : Slots). S gradient_slot) B.holds ∙ g ∙ ap (radial_gradient_of level) (sym (ap (λ (S : Slots). S field_slot) B.holds));
-      }
-
-  pub step_ready : {ls : ℕ} → ReadyStep level n ls w → Became n f w w' → f (slots n w) points_slot ≡ slots n w points_slot → f (slots n w) correction_slot ≡ slots n w correction_slot → ReadyStep level n ls w'
-  step_ready R B p q =
-      let R' = ready_after R.ready B p q in
-      record { many = R'.many; odd = R'.odd; state = R.state; fits = R'.fits; ready = R' }
 
 -- ---- a step on slots, by the definitions
 

@@ -1,30 +1,15 @@
 -- What each pass of a step makes of the slots of work memory, with T the slots of state memory.
-use Rattle.std.specs.Prelude.{◌≡◌, ℕ, ◌+◌, ◌*◌, ◌%◌, ◌≤◌, true, List, length, Float}
+use Rattle.std.specs.Prelude.{◌≡◌, ℕ, ◌+◌, ◌≤◌, true, List, Float}
 use Rattle.std.specs.Float.{binary64}
 use Rattle.std.specs.Float.Ieee.{add, mul, div}
 use Rattle.vectors.specs.Constants.{whole}
 use Rattle.vectors.specs.Memory.{tab}
 use Rattle.vectors.specs.MemoryLaws.{apart}
 use Rattle.physics.specs.Constraints.{half, radial_gradient_of}
-use Rattle.physics.specs.Passes.{Ready, constraints, full_constraints, derivatives, bounds}
-use Rattle.physics.specs.SlotNumbers.{field_slot, momentum_slot, alternate_mass_slot, radial_factor_slot, lapse_slot, char_speed_slot, gradient_slot, dt_field_slot, dt_momentum_slot, dt_mass_slot, field_sum_slot, momentum_sum_slot, mass_sum_slot, slot_count}
+use Rattle.physics.specs.Passes.{constraints, full_constraints, derivatives, bounds}
+use Rattle.physics.specs.SlotNumbers.{field_slot, momentum_slot, alternate_mass_slot, radial_factor_slot, lapse_slot, char_speed_slot, gradient_slot, dt_field_slot, dt_momentum_slot, dt_mass_slot, field_sum_slot, momentum_sum_slot, mass_sum_slot}
 use Rattle.physics.specs.Slots.{Slots, upd}
 use Rattle.physics.specs.Vector.{at, advanced_of}
-
--- room for a state in state memory and for the slots
-pub record States (n ls lw : ℕ) : Type 0 where
-  pub many : 9 ≤ n
-  pub odd : n % 2 ≡ 1
-  pub state : 8 * n ≤ ls
-  pub fits : slot_count * n ≤ lw
-
--- the same, on the grid of a level
-pub record ReadyStep (level n ls : ℕ) (w : List Float) : Type 0 where
-  pub many : 9 ≤ n
-  pub odd : n % 2 ≡ 1
-  pub state : 8 * n ≤ ls
-  pub fits : slot_count * n ≤ length w
-  pub ready : Ready level n w
 
 -- n numbers from sums on, n from rates on, and n from to on that lie apart from both
 pub record TwoInside (len sums rates to n : ℕ) : Type 0 where

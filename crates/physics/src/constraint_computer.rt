@@ -1,193 +1,157 @@
 // The constraints of constraint_computer.rs, in the slots of slots.rt.
-ghost use Rattle.std.specs.Prelude.{◌≡◌, ◌+◌, ◌-◌, ◌*◌, ◌<◌, ◌≤◌, length};
-ghost use Rattle.vectors.specs.Memory.{put};
-ghost use Rattle.vectors.specs.MemoryLaws.{Grown};
-ghost use Rattle.vectors.specs.Stencil.{diff_at};
-ghost use Rattle.std.specs.Float.{binary64};
-ghost use Rattle.std.specs.Float.Ieee.{mul, div};
+// The loops go by an index: a pass writes slots of w at the point where it reads others. Over slots that split_at_mut cuts out and zip joins,
+// a proof knows nothing of what the loop wrote; that was tried with `compute_integrand`.
+ghost use Rattle.std.specs.Prelude.{◌≡◌};
+ghost use Rattle.vectors.specs.Grid.{spacing_of};
 ghost use Rattle.physics.specs.Constraints.{integrand_at, energy_density_at, mass_at, radial_factor_at};
-ghost use Rattle.physics.specs.Fills.{Grown2};
-ghost use Rattle.physics.specs.SlotNumbers.{field_slot, radial_factor_slot, lapse_slot, char_speed_slot, gradient_slot, integral_slot, points_slot};
-ghost use Rattle.physics.specs.Slots.{slots, Became};
-ghost use Rattle.physics.specs.Vector.{at};
-ghost use Rattle.physics.specs.Passes.{Room, Ready, radial_val, speed_val, gradients, integrands, normals, lapses, radials, radial_factors, energies, constraints, full_constraints};
+ghost use Rattle.physics.specs.Passed.{Passed, Gridded};
+ghost use Rattle.physics.specs.Passes.{gradients, integrands, normals, lapses, radials, radial_factors, energies, constraints, full_constraints};
 
-use crate::integration::integrate;
 use crate::slots;
-use crate::slots::store_ends;
+use crate::slots::Slots;
+use vectors::diff::diff;
 use vectors::exp::exp_all;
 use vectors::field_vector::reciprocal;
 use vectors::grid::delta;
-use vectors::rows::{
-    DIFF_INNER, DIFF_LEFT0, DIFF_LEFT1, DIFF_RIGHT0, DIFF_RIGHT1, row, row_hollow,
-};
 
-// The constraints that the equations of motion read, and the gradient, from field and momentum. The scratch and the integral slot are used.
-pub(crate) fn compute_constraints(level: u32, n: usize, w: &mut [f64])
-    requires { Ready level n w.old }
-    ensures { Became n (constraints level) w.old w.new }
-{
-    let h = delta(level);
-    compute_radial_gradient(h, n, w);
-    compute_lapse(h, n, w);
-    compute_radial_factor(h, n, w);
-}
+impl Slots<'_> {
+    // All constraints.
+    pub(crate) fn compute_all_constraints(&mut self)
+        requires { Gridded self.old }
+        ensures { Passed (λ level n. full_constraints level) self.old self.new }
+    {
+        self.compute_constraints();
+        self.compute_energy_and_mass();
+    }
 
-// The radial gradient of the field.
-pub(crate) fn compute_radial_gradient(h: f64, n: usize, w: &mut [f64])
-    requires { Room n (length w.old) }
-    ensures { Became n (gradients h) w.old w.new }
-{
-    let d = 12.0 * h;
-    let field = slots::FIELD * n;
-    let end = slots::MOMENTUM * n;
-    let to = slots::GRADIENT * n;
-    let v = &w[field..end];
-    let left0 = row(DIFF_LEFT0, v, 0) / d;
-    let left1 = row(DIFF_LEFT1, v, 0) / d;
-    let right1 = row(DIFF_RIGHT1, v, n - 5) / d;
-    let right0 = row(DIFF_RIGHT0, v, n - 5) / d;
-    store_ends(to, n, left0, left1, right1, right0, w);
-    radial_gradient_inner(h, n, w);
-}
+    // The constraints that the equations of motion read, and the gradient, from field and momentum. The scratch and the integral slot are used.
+    pub(crate) fn compute_constraints(&mut self)
+        requires { Gridded self.old }
+        ensures { Passed (λ level n. constraints level) self.old self.new }
+    {
+        let h = delta(self.level);
+        self.compute_radial_gradient();
+        self.compute_lapse(h);
+        self.compute_radial_factor(h);
+    }
 
-// The same but for the two points at each end.
-fn radial_gradient_inner(h: f64, n: usize, w: &mut [f64])
-    requires { Room n (length w.old) }
-    ensures { (length w.new ≡ length w.old)
-        × Grown (gradient_slot * n) 2 (n - 2) (λ E. diff_at h (slots n E field_slot)) w.old w.new }
-{
-    let d = 12.0 * h;
-    let len = w.len();
-    let field = slots::FIELD * n;
-    let end = slots::MOMENTUM * n;
-    let to = slots::GRADIENT * n;
-    let mut i = 2;
-    while i < n - 2 {
-        w[to + i] = row_hollow(DIFF_INNER, &w[field..end], i - 2) / d;
-        i += 1;
+    // The radial gradient of the field. The level of the struct is not refused.
+    pub(crate) fn compute_radial_gradient(&mut self)
+        ensures { Passed (λ level n. gradients (spacing_of level)) self.old self.new }
+    {
+        let n = self.n;
+        let w = &mut *self.w;
+        let field = slots::FIELD * n;
+        let (before, after) = w.split_at_mut(slots::GRADIENT * n);
+        let _ = diff(self.level, &before[field..field + n], &mut after[..n]);
+    }
+
+    // The lapse, and 1 over it in the scratch slot.
+    fn compute_lapse(&mut self, h: f64)
+        ensures { Passed (λ level n. lapses n h) self.old self.new }
+    {
+        let lapse = slots::LAPSE * self.n;
+        let end = slots::CHAR_SPEED * self.n;
+        self.compute_integrand();
+        self.integrate(h, slots::LAPSE);
+        exp_all(&mut self.w[lapse..end]);
+        self.normalise_lapse();
+    }
+
+    // The integrand of the log lapse, to the scratch slot.
+    fn compute_integrand(&mut self)
+        ensures { Passed (λ level. integrands) self.old self.new }
+    {
+        let n = self.n;
+        let w = &mut *self.w;
+        let momentum = slots::MOMENTUM * n;
+        let gradient = slots::GRADIENT * n;
+        let to = slots::SCRATCH * n;
+        let points = slots::POINTS * n;
+        for i in 0..n {
+            w[to + i] = integrand_at(w[points + i], w[gradient + i], w[momentum + i]);
+        }
+    }
+
+    // The lapse is free up to a constant factor: it is scaled to 1 at the last point. To the scratch slot: 1 over it.
+    fn normalise_lapse(&mut self)
+        ensures { Passed (λ level n. normals) self.old self.new }
+    {
+        let n = self.n;
+        let w = &mut *self.w;
+        let lapse = slots::LAPSE * n;
+        let inverse = slots::SCRATCH * n;
+        let factor = reciprocal(w[lapse + (n - 1)]);
+        for i in 0..n {
+            let x = factor * w[lapse + i];
+            w[lapse + i] = x;
+            w[inverse + i] = reciprocal(x);
+        }
+    }
+
+    // The radial factor and the char speed, from the lapse and 1 over it. The integral slot is used.
+    fn compute_radial_factor(&mut self, h: f64)
+        ensures { Passed (λ level n. radial_factors n h) self.old self.new }
+    {
+        self.integrate(h, slots::INTEGRAL);
+        self.radial_factor_and_char_speed();
+    }
+
+    // The mass is O(r³) at the left boundary, so the radial factor is 1 there.
+    fn radial_factor_and_char_speed(&mut self)
+        ensures { Passed (λ level. radials) self.old self.new }
+    {
+        let n = self.n;
+        let w = &mut *self.w;
+        let radial_factor = slots::RADIAL_FACTOR * n;
+        let lapse = slots::LAPSE * n;
+        let char_speed = slots::CHAR_SPEED * n;
+        let integral = slots::INTEGRAL * n;
+        let points = slots::POINTS * n;
+        let integral0 = w[integral];
+        let x = 1.0 / w[lapse];
+        w[radial_factor] = 1.0;
+        w[char_speed] = x;
+        for i in 1..n {
+            let a = radial_factor_at(w[lapse + i], w[points + i], w[integral + i], integral0);
+            let b = a / w[lapse + i];
+            w[radial_factor + i] = a;
+            w[char_speed + i] = b;
+        }
+    }
+
+    // The energy density and the mass, which no stage reads.
+    fn compute_energy_and_mass(&mut self)
+        ensures { Passed (λ level. energies) self.old self.new }
+    {
+        let n = self.n;
+        let w = &mut *self.w;
+        let momentum = slots::MOMENTUM * n;
+        let energy_density = slots::ENERGY_DENSITY * n;
+        let mass = slots::MASS * n;
+        let radial_factor = slots::RADIAL_FACTOR * n;
+        let gradient = slots::GRADIENT * n;
+        let points = slots::POINTS * n;
+        for i in 0..n {
+            let e = energy_density_at(w[points + i], w[gradient + i], w[momentum + i]);
+            let m = mass_at(w[points + i], w[radial_factor + i]);
+            w[energy_density + i] = e;
+            w[mass + i] = m;
+        }
     }
 }
 
-// The lapse, and 1 over it in the scratch slot.
-fn compute_lapse(h: f64, n: usize, w: &mut [f64])
-    requires { Room n (length w.old) }
-    ensures { Became n (lapses n h) w.old w.new }
-{
-    let lapse = slots::LAPSE * n;
-    let end = slots::CHAR_SPEED * n;
-    compute_integrand(n, w);
-    integrate(h, n, lapse, w);
-    exp_all(&mut w[lapse..end]);
-    normalise_lapse(n, w);
-}
-
+// The formulas of a point, here and in equations.rt and integration.rt, take their numbers one by one, as the definitions do.
 fn integrand_at(r: f64, gradient: f64, momentum: f64) -> f64
     ensures { result ≡ integrand_at r gradient momentum }
 {
     -1.0 * r * (gradient * gradient + momentum * momentum)
 }
 
-// The integrand of the log lapse, to the scratch slot.
-fn compute_integrand(n: usize, w: &mut [f64])
-    requires { Room n (length w.old) }
-    ensures { Became n (integrands n) w.old w.new }
-{
-    let len = w.len();
-    let momentum = slots::MOMENTUM * n;
-    let gradient = slots::GRADIENT * n;
-    let to = slots::SCRATCH * n;
-    let points = slots::POINTS * n;
-    let mut i = 0;
-    while i < n {
-        w[to + i] = integrand_at(w[points + i], w[gradient + i], w[momentum + i]);
-        i += 1;
-    }
-}
-
-fn scaled(factor: f64, x: f64) -> f64
-    ensures { result ≡ mul binary64 factor x }
-{
-    factor * x
-}
-
-// The lapse is free up to a constant factor: it is scaled to 1 at the last point. To the scratch slot: 1 over it.
-fn normalise_lapse(n: usize, w: &mut [f64])
-    requires { Room n (length w.old) }
-    ensures { Became n normals w.old w.new }
-{
-    let len = w.len();
-    let lapse = slots::LAPSE * n;
-    let inverse = slots::SCRATCH * n;
-    let factor = reciprocal(w[lapse + (n - 1)]);
-    let mut i = 0;
-    while i < n {
-        let x = scaled(factor, w[lapse + i]);
-        w[lapse + i] = x;
-        w[inverse + i] = reciprocal(x);
-        i += 1;
-    }
-}
-
-// The radial factor and the char speed, from the lapse and 1 over it. The integral slot is used.
-fn compute_radial_factor(h: f64, n: usize, w: &mut [f64])
-    requires { Room n (length w.old) }
-    ensures { Became n (radial_factors n h) w.old w.new }
-{
-    let integral = slots::INTEGRAL * n;
-    integrate(h, n, integral, w);
-    radial_factor_and_char_speed(n, w);
-}
-
 fn radial_factor_at(lapse: f64, r: f64, integral: f64, integral0: f64) -> f64
     ensures { result ≡ radial_factor_at lapse r integral integral0 }
 {
     lapse / r * (integral - integral0)
-}
-
-fn quotient(x: f64, y: f64) -> f64
-    ensures { result ≡ div binary64 x y }
-{
-    x / y
-}
-
-// The mass is O(r³) at the left boundary, so the radial factor is 1 there.
-fn radial_factor_and_char_speed(n: usize, w: &mut [f64])
-    requires { Room n (length w.old) }
-    ensures { Became n (radials n) w.old w.new }
-{
-    let radial_factor = slots::RADIAL_FACTOR * n;
-    let lapse = slots::LAPSE * n;
-    let char_speed = slots::CHAR_SPEED * n;
-    let integral = slots::INTEGRAL * n;
-    let integral0 = w[integral];
-    let x = quotient(1.0, w[lapse]);
-    w[radial_factor] = 1.0;
-    w[char_speed] = x;
-    radial_factor_and_char_speed_from_1(n, integral0, w);
-}
-
-// The same from point 1 on, where integral0 is the integral at point 0.
-fn radial_factor_and_char_speed_from_1(n: usize, integral0: f64, w: &mut [f64])
-    requires { Room n (length w.old) }
-    ensures { (length w.new ≡ length w.old)
-        × Grown2 (radial_factor_slot * n) (char_speed_slot * n) 1 n (λ E. radial_val (at (slots n E points_slot)) (slots n E lapse_slot) (slots n E integral_slot) integral0)
-        (λ E. speed_val (at (slots n E points_slot)) (slots n E lapse_slot) (slots n E integral_slot) integral0) w.old w.new }
-{
-    let len = w.len();
-    let radial_factor = slots::RADIAL_FACTOR * n;
-    let lapse = slots::LAPSE * n;
-    let char_speed = slots::CHAR_SPEED * n;
-    let integral = slots::INTEGRAL * n;
-    let points = slots::POINTS * n;
-    let mut i = 1;
-    while i < n {
-        let a = radial_factor_at(w[lapse + i], w[points + i], w[integral + i], integral0);
-        let b = quotient(a, w[lapse + i]);
-        w[radial_factor + i] = a;
-        w[char_speed + i] = b;
-        i += 1;
-    }
 }
 
 fn energy_density_at(r: f64, gradient: f64, momentum: f64) -> f64
@@ -200,35 +164,4 @@ fn mass_at(r: f64, factor: f64) -> f64
     ensures { result ≡ mass_at r factor }
 {
     0.5 * r * (1.0 - factor)
-}
-
-// The energy density and the mass, which no stage reads.
-fn compute_energy_and_mass(n: usize, w: &mut [f64])
-    requires { Room n (length w.old) }
-    ensures { Became n (energies n) w.old w.new }
-{
-    let len = w.len();
-    let momentum = slots::MOMENTUM * n;
-    let energy_density = slots::ENERGY_DENSITY * n;
-    let mass = slots::MASS * n;
-    let radial_factor = slots::RADIAL_FACTOR * n;
-    let gradient = slots::GRADIENT * n;
-    let points = slots::POINTS * n;
-    let mut i = 0;
-    while i < n {
-        let e = energy_density_at(w[points + i], w[gradient + i], w[momentum + i]);
-        let m = mass_at(w[points + i], w[radial_factor + i]);
-        w[energy_density + i] = e;
-        w[mass + i] = m;
-        i += 1;
-    }
-}
-
-// All constraints.
-pub(crate) fn compute_all_constraints(level: u32, n: usize, w: &mut [f64])
-    requires { Ready level n w.old }
-    ensures { Became n (full_constraints level) w.old w.new }
-{
-    compute_constraints(level, n, w);
-    compute_energy_and_mass(n, w);
 }

@@ -4,7 +4,9 @@
 mod constraint_computer;
 pub mod constraints;
 mod equations;
+mod fill_grid;
 pub mod integration;
 mod slots;
 pub mod state;
 pub mod state_builder;
+mod step;

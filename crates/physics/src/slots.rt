@@ -1,14 +1,11 @@
 // Vectors in one part of work memory: slot k has the n numbers from k * n on, up to where slot k + 1 begins.
-ghost use Rattle.std.specs.Prelude.{◌≡◌, ◌+◌, ◌*◌, ◌≤◌, length};
+ghost use Rattle.std.specs.Prelude.{◌≡◌, ◌+◌, ◌*◌, ◌%◌, ◌≤◌, length};
+ghost use Rattle.vectors.specs.Grid.{points_of};
 ghost use Rattle.vectors.specs.Memory.{part, put};
 ghost use Rattle.physics.specs.Vector.{advanced_of};
-ghost use Rattle.physics.specs.DifferenceLaws.{ends_set};
-ghost use Rattle.physics.specs.Slots.{Became};
-ghost use Rattle.physics.specs.Passes.{Room, Inside, grids};
+ghost use Rattle.physics.specs.SlotNumbers.{slot_count};
+ghost use Rattle.physics.specs.Passes.{Inside};
 ghost use Rattle.physics.specs.StepPasses.{TwoInside, advanced_by_sum};
-
-use vectors::diff::radial_correction;
-use vectors::grid::point;
 
 // The slots are numbers START * n to END * n of work memory, of which a call asks WORK * n.
 pub(crate) const START: usize = 8;
@@ -65,7 +62,20 @@ pub(crate) const POINTS: usize = 19;
 
 pub(crate) const CORRECTION: usize = 20;
 
-// A vector, to the numbers from to on. A loop, here and in the other two copies: `copy_from_slice` and `copy_within` are calls of C's memcpy
+// The part of work memory that holds the slots, each of the n points of a level. Each pass over them is a method, in the file of the equation that it computes.
+#[derive(Drop)]
+pub(crate) struct Slots<'a> {
+    pub(crate) level: u32,
+    pub(crate) n: usize,
+    pub(crate) w: &'a mut [f64],
+    ghost grid: { n ≡ points_of level },
+    ghost many: { 9 ≤ n },
+    ghost odd: { n % 2 ≡ 1 },
+    ghost fits: { slot_count * n ≤ length w.now },
+}
+
+// The functions below take places and no slots, since neighbouring slots are one list in them.
+// A vector, to the numbers from to on. A loop, here and in `copy_within`: `copy_from_slice` and `copy_within` are calls of C's memcpy
 // and memmove, which made a step at levels 9 to 11 take 8 percent longer.
 pub(crate) fn copy_vector(vector: &[f64], to: usize, w: &mut [f64])
     requires { to + length vector.now ≤ length w.old }
@@ -76,7 +86,8 @@ pub(crate) fn copy_vector(vector: &[f64], to: usize, w: &mut [f64])
     }
 }
 
-// The n numbers from from on, to those from to on.
+// The n numbers from from on, to those from to on; n is not how many w has. By an index here and in `add_scaled`, as the loops of
+// constraint_computer.rt.
 pub(crate) fn copy_within(from: usize, to: usize, n: usize, w: &mut [f64])
     requires { Inside (length w.old) from to n }
     ensures { w.new ≡ put to (part from n w.old) w.old }
@@ -122,39 +133,5 @@ pub(crate) fn add_scaled(c: f64, from: usize, to: usize, n: usize, w: &mut [f64]
 {
     for i in 0..n {
         w[to + i] += c * w[from + i];
-    }
-}
-
-// Of the n numbers from to on, the two at each end.
-pub(crate) fn store_ends(
-    to: usize,
-    n: usize,
-    left0: f64,
-    left1: f64,
-    right1: f64,
-    right0: f64,
-    w: &mut [f64],
-)
-    requires { (4 ≤ n) × (to + n ≤ length w.old) }
-    ensures { w.new ≡ ends_set to n left0 left1 right1 right0 w.old }
-{
-    w[to + (n - 2)] = right1;
-    w[to + (n - 1)] = right0;
-    w[to] = left0;
-    w[to + 1] = left1;
-}
-
-// The points and the radial correction, to their slots.
-pub(crate) fn fill_grid(level: u32, n: usize, w: &mut [f64])
-    requires { Room n (length w.old) }
-    ensures { Became n (grids level n) w.old w.new }
-{
-    let points = POINTS * n;
-    let correction = CORRECTION * n;
-    for i in 0..n {
-        let r = point(level, i);
-        let c = radial_correction(r);
-        w[points + i] = r;
-        w[correction + i] = c;
     }
 }

@@ -1,5 +1,5 @@
 // From domain/state.rs: `total_energy`. With it what a run does with a state that a memory holds: look for a NaN, and store it.
-ghost use Rattle.std.specs.Prelude.{◌≡◌, ◌≤◌, length, take};
+ghost use Rattle.std.specs.Prelude.{◌≡◌, ◌*◌, ◌≤◌, length, take};
 ghost use Rattle.vectors.specs.Answer.{number_of, left_by};
 ghost use Rattle.vectors.specs.Fault.{fault_of};
 ghost use Rattle.vectors.specs.Grid.{points_of};
@@ -9,6 +9,7 @@ ghost use Rattle.physics.specs.Store.{both_hold, stored_of};
 ghost use Rattle.physics.specs.TotalEnergy.{last_of};
 
 use crate::slots;
+use crate::slots::copy_vector;
 use vectors::answer::{Refusal, checked};
 use vectors::grid::length_at_discretization;
 
@@ -31,6 +32,22 @@ pub fn has_nan(time: f64, vectors: &[f64]) -> bool
     found
 }
 
+// How many numbers of state memory a level wants.
+#[tactic(auto, using(vectors::specs::GridLaws::points_bound))]
+pub fn state_size(level: u32) -> usize
+    ensures { result ≡ 8 * points_of level }
+{
+    8 * length_at_discretization(level)
+}
+
+// How many numbers of work memory a level wants.
+#[tactic(auto, using(vectors::specs::GridLaws::points_bound))]
+pub fn work_size(level: u32) -> usize
+    ensures { result ≡ 40 * points_of level }
+{
+    40 * length_at_discretization(level)
+}
+
 // Stores a state that is laid out at the front of `from`.
 #[tactic(auto, using(vectors::specs::GridLaws::points_bound))]
 pub fn store(level: u32, from: &[f64], state: &mut [f64]) -> Result<(), Refusal>
@@ -39,16 +56,6 @@ pub fn store(level: u32, from: &[f64], state: &mut [f64]) -> Result<(), Refusal>
 {
     let count = slots::VECTORS * length_at_discretization(level);
     checked(level, count <= from.len() && count <= state.len())?;
-    copy(count, from, state);
+    copy_vector(&from[..count], 0, state);
     Ok(())
-}
-
-// Copies the first count numbers; what follows them stays. A loop, as `copy_vector` in slots.rt is.
-fn copy(count: usize, from: &[f64], state: &mut [f64])
-    requires { (count ≤ length from.now) × (count ≤ length state.old) }
-    ensures { state.new ≡ put 0 (take count from.now) state.old }
-{
-    for (i, x) in from[..count].iter().enumerate() {
-        state[i] = *x;
-    }
 }

@@ -1,22 +1,22 @@
 // `build_initial_state` of state_builder.rs, in the slots of slots.rt.
-ghost use Rattle.std.specs.Prelude.{◌≡◌, ◌+◌, ◌*◌, ◌≤◌, length};
-ghost use Rattle.std.specs.Float.{binary64};
-ghost use Rattle.std.specs.Float.Ieee.{mul};
+ghost use Rattle.std.specs.Prelude.{◌≡◌, ◌*◌, ◌≤◌, length};
 ghost use Rattle.vectors.specs.Answer.{number_of};
 ghost use Rattle.vectors.specs.Fault.{fault_of};
 ghost use Rattle.vectors.specs.Grid.{points_of};
 ghost use Rattle.physics.specs.InitialState.{exponent_at, initial_state_of};
-ghost use Rattle.physics.specs.Slots.{slots, Became};
-ghost use Rattle.physics.specs.Passes.{Room, Ready, grids};
-ghost use Rattle.physics.specs.InitialPasses.{exponents, scales, variables, initials};
+ghost use Rattle.physics.specs.Passed.{Passed};
+ghost use Rattle.physics.specs.Passes.{Room, grids};
+ghost use Rattle.physics.specs.SlotNumbers.{alternate_mass_slot, mass_slot};
+ghost use Rattle.physics.specs.Slots.{upd, Became};
+ghost use Rattle.physics.specs.InitialPasses.{exponents, variables, initials};
 ghost use Rattle.physics.specs.Built.{room_to_build};
 ghost use Rattle.physics.specs.WorkAfter.{WorkAfter};
 
-use crate::constraint_computer::compute_all_constraints;
 use crate::slots;
-use crate::slots::{copy_within, fill_grid};
+use crate::slots::{Slots, copy_within};
 use vectors::answer::{Refusal, checked};
 use vectors::constants::INITIAL_WAVE_STEEPNESS;
+use vectors::diff::scale;
 use vectors::exp::exp_all;
 use vectors::field_vector::square;
 use vectors::grid::length_at_discretization;
@@ -52,41 +52,48 @@ fn build_state(level: u32, n: usize, amplitude: f64, w: &mut [f64])
     requires { (n ≡ points_of level) × Room n (length w.old) }
     ensures { Became n (λ S. initials level n amplitude (grids level n S)) w.old w.new }
 {
-    let mass = slots::MASS * n;
-    let alternate_mass = slots::ALTERNATE_MASS * n;
-    fill_grid(level, n, w);
-    initial_variables(n, amplitude, w);
-    compute_all_constraints(level, n, w);
-    copy_within(mass, alternate_mass, n, w);
+    let mut s = Slots { level, n, w };
+    s.fill_grid();
+    s.initial_variables(amplitude);
+    s.compute_all_constraints();
+    s.begin_alternate_mass();
 }
 
-// A field of zeros, and the wave profile as momentum.
-fn initial_variables(n: usize, amplitude: f64, w: &mut [f64])
-    requires { Room n (length w.old) }
-    ensures { Became n (variables n amplitude) w.old w.new }
-{
-    let momentum = slots::MOMENTUM * n;
-    let end = slots::ALTERNATE_MASS * n;
-    initial_exponents(n, w);
-    exp_all(&mut w[momentum..end]);
-    scale_profile(n, amplitude, w);
-}
+impl Slots<'_> {
+    // A field of zeros, and the wave profile as momentum.
+    fn initial_variables(&mut self, amplitude: f64)
+        ensures { Passed (λ level n. variables n amplitude) self.old self.new }
+    {
+        let momentum = slots::MOMENTUM * self.n;
+        let end = slots::ALTERNATE_MASS * self.n;
+        self.initial_exponents();
+        exp_all(&mut self.w[momentum..end]);
+        scale(amplitude, &mut self.w[momentum..end]);
+    }
 
-// A field of zeros; where the momentum goes, the exponents of the wave profile.
-fn initial_exponents(n: usize, w: &mut [f64])
-    requires { Room n (length w.old) }
-    ensures { Became n (exponents n) w.old w.new }
-{
-    let len = w.len();
-    let field = slots::FIELD * n;
-    let momentum = slots::MOMENTUM * n;
-    let points = slots::POINTS * n;
-    let mut i = 0;
-    while i < n {
-        let exponent = exponent_at(w[points + i]);
-        w[field + i] = 0.0;
-        w[momentum + i] = exponent;
-        i += 1;
+    // A field of zeros; where the momentum goes, the exponents of the wave profile. By an index, as the loops of constraint_computer.rt.
+    fn initial_exponents(&mut self)
+        ensures { Passed (λ level. exponents) self.old self.new }
+    {
+        let n = self.n;
+        let w = &mut *self.w;
+        let field = slots::FIELD * n;
+        let momentum = slots::MOMENTUM * n;
+        let points = slots::POINTS * n;
+        for i in 0..n {
+            let exponent = exponent_at(w[points + i]);
+            w[field + i] = 0.0;
+            w[momentum + i] = exponent;
+        }
+    }
+
+    // The alternate mass begins as the mass.
+    fn begin_alternate_mass(&mut self)
+        ensures { Passed (λ level n S. upd alternate_mass_slot (S mass_slot) S) self.old self.new }
+    {
+        let mass = slots::MASS * self.n;
+        let alternate_mass = slots::ALTERNATE_MASS * self.n;
+        copy_within(mass, alternate_mass, self.n, self.w);
     }
 }
 
@@ -94,18 +101,4 @@ fn exponent_at(r: f64) -> f64
     ensures { result ≡ exponent_at r }
 {
     -INITIAL_WAVE_STEEPNESS * square(tan(PI / 2.0 * r))
-}
-
-// The momentum times the amplitude.
-fn scale_profile(n: usize, amplitude: f64, w: &mut [f64])
-    requires { Room n (length w.old) }
-    ensures { Became n (scales amplitude) w.old w.new }
-{
-    let len = w.len();
-    let momentum = slots::MOMENTUM * n;
-    let mut i = 0;
-    while i < n {
-        w[momentum + i] = amplitude * w[momentum + i];
-        i += 1;
-    }
 }

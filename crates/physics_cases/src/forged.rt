@@ -1,9 +1,8 @@
 // One step from states that no run has: random vectors, one of them replaced by wilder numbers; and from times, and by
 // steps, that no run has.
 use crate::lines;
-use crate::memories::{STATE, WORK, base, points};
+use crate::memories::{Memories, base};
 use cases::arguments::{Range, after, argument};
-use physics::integration::rk4_step;
 use std::io;
 use vectors::bits::of_bits;
 
@@ -24,65 +23,42 @@ const TIMES: [(u64, u64); 8] = [
     (0x7FF8000000000000, 0x3FF0000000000000), (0x7FF0000000000000, 0x3FF0000000000000),
 ];
 
-pub fn levels(rt: &impl Print, state: &mut [f64; STATE], work: &mut [f64; WORK]) -> io::Result<()> {
+pub fn levels(rt: &impl Print, memories: &mut Memories) -> io::Result<()> {
     for level in 5..=7 {
-        seeds(rt, level, state, work)?;
+        seeds(rt, level, memories)?;
     }
     Ok(())
 }
 
-fn seeds(
-    rt: &impl Print,
-    level: u32,
-    state: &mut [f64; STATE],
-    work: &mut [f64; WORK],
-) -> io::Result<()> {
+fn seeds(rt: &impl Print, level: u32, memories: &mut Memories) -> io::Result<()> {
     for seed in 1..=3 {
-        vectors(rt, level, seed, state, work)?;
+        vectors(rt, level, seed, memories)?;
     }
     Ok(())
 }
 
-fn vectors(
-    rt: &impl Print,
-    level: u32,
-    seed: u64,
-    state: &mut [f64; STATE],
-    work: &mut [f64; WORK],
-) -> io::Result<()> {
+fn vectors(rt: &impl Print, level: u32, seed: u64, memories: &mut Memories) -> io::Result<()> {
     for replaced in 0..=8 {
+        let forged = Forged {
+            level,
+            seed,
+            replaced,
+        };
         print!(rt; "forged level {level} seed {seed} replaced {replaced}")?;
-        step(
-            rt,
-            Forged {
-                level,
-                seed,
-                replaced,
-            },
-            3.7,
-            1.0,
-            state,
-            work,
-        )?;
+        step(rt, forged, 3.7, 1.0, memories)?;
     }
     Ok(())
 }
 
-pub fn times(rt: &impl Print, state: &mut [f64; STATE], work: &mut [f64; WORK]) -> io::Result<()> {
+pub fn times(rt: &impl Print, memories: &mut Memories) -> io::Result<()> {
     for (time, factor) in TIMES {
+        let forged = Forged {
+            level: 5,
+            seed: 1,
+            replaced: 8,
+        };
         print!(rt; "forged level 5 time {time:016x} factor {factor:016x}")?;
-        step(
-            rt,
-            Forged {
-                level: 5,
-                seed: 1,
-                replaced: 8,
-            },
-            of_bits(time),
-            of_bits(factor),
-            state,
-            work,
-        )?;
+        step(rt, forged, of_bits(time), of_bits(factor), memories)?;
     }
     Ok(())
 }
@@ -93,17 +69,12 @@ fn step(
     forged: Forged,
     time: f64,
     factor: f64,
-    state: &mut [f64; STATE],
-    work: &mut [f64; WORK],
+    memories: &mut Memories,
 ) -> io::Result<()> {
     let level = forged.level;
-    let n = points(level);
-    let from = &mut state[..8 * n];
-    forge(forged, from);
-    let next = rk4_step(level, time, base(level) * factor, from, &mut work[..40 * n]).unwrap_or(
-        f64::NAN,
-    );
-    lines::state(rt, next, &work[8 * n..16 * n])
+    forge(forged, memories.state(level));
+    let next = memories.step(level, time, base(level) * factor);
+    lines::state(rt, next, memories.made(level))
 }
 
 fn forge(forged: Forged, state: &mut [f64]) {

@@ -8,16 +8,19 @@ mod memories;
 mod refusals;
 mod runs;
 
-use memories::{STATE, WORK};
+use memories::{Memories, STATE, WORK};
 use std::io;
 
+// A function that prints takes rt beside what it prints, as a level or the memories: a struct of both would have the type of the
+// handle as a parameter, and be no plainer.
 fn main(rt: HostRuntime) -> io::Result<()> {
-    let mut state = [0.0; STATE];
-    let mut work = [0.0; WORK];
-    runs::long(&rt, &mut state, &mut work)?;
-    runs::short(&rt, &mut state, &mut work)?;
-    forged::levels(&rt, &mut state, &mut work)?;
-    forged::times(&rt, &mut state, &mut work)?;
+    let mut memories = Memories {
+        state: [0.0; STATE],
+        work: [0.0; WORK],
+    };
+    runs::all(&rt, &mut memories)?;
+    forged::levels(&rt, &mut memories)?;
+    forged::times(&rt, &mut memories)?;
     diagnostics::levels(&rt)?;
     diagnostics::short(&rt)?;
     refusals::steps(&rt)?;

@@ -2,13 +2,13 @@
 // memory, of 300 numbers, and writes to another, of 1400; it gets the first numbers of each. Level 5 wants 264 numbers of
 // a state and 1320 of work memory, where the next state stands in numbers 264 to 528.
 use crate::memories::base;
+use cases::answers::number;
 use cases::arguments::{Range, list};
 use cases::digest::digest;
 use physics::integration::rk4_step;
 use physics::state::store;
 use physics::state_builder::build_initial_state;
 use std::io;
-use vectors::answer::Refusal;
 use vectors::bits::bits_of;
 
 // As in oracle/physics/refusals.rs: the level, and how much is lent of each memory.
@@ -104,9 +104,4 @@ fn made(rt: &impl Print, work: &[f64; 1400]) -> io::Result<()> {
         digest(&work[264..528]),
         digest(&work[1320..])
     )
-}
-
-// 01's number of a refusal, 0 where there is none.
-fn number(answer: Result<(), Refusal>) -> u32 {
-    answer.err().map_or(0, u32::from)
 }

@@ -1,16 +1,10 @@
 // Runs from the initial state with steps of a constant length. A run ends after its last step or at a state with a NaN.
 use crate::lines;
-use crate::memories::{STATE, WORK, base, points};
-use physics::integration::rk4_step;
-use physics::state::{has_nan, store};
-use physics::state_builder::build_initial_state;
+use crate::memories::{Memories, base};
+use physics::state::has_nan;
 use std::{fmt, io};
 use vectors::bits::bits_of;
 use vectors::constants::BH_SLOWDOWN_FACTOR;
-
-// As in oracle/physics/runs.rs. At 668 and 672 some runs break after steps, at 700 in the initial state.
-#[rattlefmt::skip]
-const AMPLITUDES: [f64; 13] = [0.0, 0.5, 10.0, 25.0, 26.0, 35.5, 60.0, 163.1, -20.0, 1e-200, 668.0, 672.0, 700.0];
 
 #[derive(Clone, Copy)]
 enum Speed {
@@ -51,101 +45,81 @@ impl Run {
     }
 }
 
-// A hundred steps at each amplitude and both speeds.
-pub fn long(rt: &impl Print, state: &mut [f64; STATE], work: &mut [f64; WORK]) -> io::Result<()> {
-    for level in 5..=9 {
-        amplitudes(rt, level, state, work)?;
+// Runs at each level from the least to the most, at each amplitude and each speed.
+#[derive(Clone, Copy)]
+struct Runs {
+    least: u32,
+    most: u32,
+    amplitudes: &'static [f64],
+    speeds: &'static [Speed],
+    last: u32,
+}
+
+// As in oracle/physics/runs.rs. At 668 and 672 some runs break after steps, at 700 in the initial state.
+#[rattlefmt::skip]
+const RUNS: [Runs; 2] = [
+    Runs {
+        least: 5,
+        most: 9,
+        amplitudes: &[0.0, 0.5, 10.0, 25.0, 26.0, 35.5, 60.0, 163.1, -20.0, 1e-200, 668.0, 672.0, 700.0],
+        speeds: &[Speed::Base, Speed::Slowed],
+        last: 100,
+    },
+    Runs { least: 10, most: 13, amplitudes: &[10.0, 35.5, -20.0, 700.0], speeds: &[Speed::Base], last: 2 },
+];
+
+pub fn all(rt: &impl Print, memories: &mut Memories) -> io::Result<()> {
+    for runs in RUNS {
+        levels(rt, runs, memories)?;
     }
     Ok(())
 }
 
-fn amplitudes(
+fn levels(rt: &impl Print, runs: Runs, memories: &mut Memories) -> io::Result<()> {
+    for level in runs.least..=runs.most {
+        amplitudes(rt, runs, level, memories)?;
+    }
+    Ok(())
+}
+
+fn amplitudes(rt: &impl Print, runs: Runs, level: u32, memories: &mut Memories) -> io::Result<()> {
+    for amplitude in runs.amplitudes {
+        speeds(rt, runs, level, *amplitude, memories)?;
+    }
+    Ok(())
+}
+
+fn speeds(
     rt: &impl Print,
+    runs: Runs,
     level: u32,
-    state: &mut [f64; STATE],
-    work: &mut [f64; WORK],
+    amplitude: f64,
+    memories: &mut Memories,
 ) -> io::Result<()> {
-    for amplitude in AMPLITUDES {
-        carry_out(
-            rt,
-            Run {
-                level,
-                amplitude,
-                speed: Speed::Base,
-                last: 100,
-            },
-            state,
-            work,
-        )?;
-        carry_out(
-            rt,
-            Run {
-                level,
-                amplitude,
-                speed: Speed::Slowed,
-                last: 100,
-            },
-            state,
-            work,
-        )?;
+    for speed in runs.speeds {
+        let run = Run {
+            level,
+            amplitude,
+            speed: *speed,
+            last: runs.last,
+        };
+        carry_out(rt, run, memories)?;
     }
     Ok(())
 }
 
-pub fn short(rt: &impl Print, state: &mut [f64; STATE], work: &mut [f64; WORK]) -> io::Result<()> {
-    for level in 10..=13 {
-        two_steps(rt, level, state, work)?;
-    }
-    Ok(())
-}
-
-fn two_steps(
-    rt: &impl Print,
-    level: u32,
-    state: &mut [f64; STATE],
-    work: &mut [f64; WORK],
-) -> io::Result<()> {
-    for amplitude in [10.0, 35.5, -20.0, 700.0] {
-        carry_out(
-            rt,
-            Run {
-                level,
-                amplitude,
-                speed: Speed::Base,
-                last: 2,
-            },
-            state,
-            work,
-        )?;
-    }
-    Ok(())
-}
-
-fn carry_out(
-    rt: &impl Print,
-    run: Run,
-    state: &mut [f64; STATE],
-    work: &mut [f64; WORK],
-) -> io::Result<()> {
+fn carry_out(rt: &impl Print, run: Run, memories: &mut Memories) -> io::Result<()> {
     let level = run.level;
-    let n = points(level);
-    let _ = build_initial_state(level, run.amplitude, &mut work[..40 * n]);
+    memories.build(level, run.amplitude);
     let mut time = 0.0;
-    let mut broken = arrive(rt, run, 0, time, &work[8 * n..16 * n])?;
+    let mut broken = arrive(rt, run, 0, time, memories.made(level))?;
     for steps in 1..=run.last {
         if broken {
             break;
         }
-        let _ = store(level, &work[8 * n..16 * n], &mut state[..8 * n]);
-        time = rk4_step(
-            level,
-            time,
-            run.delta(),
-            &state[..8 * n],
-            &mut work[..40 * n],
-        )
-        .unwrap_or(f64::NAN);
-        broken = arrive(rt, run, steps, time, &work[8 * n..16 * n])?;
+        memories.store(level);
+        time = memories.step(level, time, run.delta());
+        broken = arrive(rt, run, steps, time, memories.made(level))?;
     }
     Ok(())
 }

@@ -1,14 +1,17 @@
 -- How much of the input a program reads.
-use Rattle.std.specs.Prelude.{ℕ, suc, ◌≤◌, ◌≡◌}
-use Rattle.program_io.specs.declared.Input.{Input}
-use Rattle.program_io.specs.declared.Input.TheVariants.{Failed, Ended, Full}
+use Rattle.std.specs.Prelude.{ℕ, suc, ◌<◌, ◌≤◌, List, length, take, Option, Result, Ok, Err}
+use Rattle.std.specs.Io.KnownBytes.{Consumes, IsAtEnd}
+use Rattle.program_io.specs.declared.Failure.{Failure}
+use Rattle.program_io.specs.declared.Failure.TheVariants.{Input, Output}
 
 -- 01, "8: the program's input is above 4,096 bytes": one byte more than an order may have tells whether it is
 abbrev pub lent_input : ℕ
 lent_input = suc 4096
 
--- reading ends where a read puts nothing more into the buffer, or where the buffer is full
-abbrev pub Counted : (room : ℕ) → Input → Type 0
-Counted room Failed = Unit {0}
-Counted room (Ended count last) = (count ≤ room) × (last ≡ 0)
-Counted room (Full count) = count ≡ room
+-- The buffer begins with so many bytes, the next of the input: as many as the buffer has, or fewer, and then the input is at its end. Where a
+-- read failed, so many were read before.
+abbrev pub Counted : (left left' : Option (List ℕ)) → (buffer : List ℕ) → Result ℕ Failure → Type 0
+Counted left left' buffer (Ok count) =
+    (count ≤ length buffer) × Consumes left left' (take count buffer) × (count < length buffer → IsAtEnd left')
+Counted left left' buffer (Err (Input error)) = (count : ℕ) × (count < length buffer) × Consumes left left' (take count buffer)
+Counted left left' buffer (Err (Output error)) = ⊥

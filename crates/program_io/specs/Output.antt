@@ -1,13 +1,15 @@
 -- How much of a text was written.
-use Rattle.std.specs.Prelude.{ℕ, ◌<◌, Bool, true, false, ◌≡◌}
-use Rattle.program_io.specs.declared.Written.{Written}
-use Rattle.program_io.specs.declared.Written.TheVariants.{Cut, All}
+use Rattle.std.specs.Prelude.{ℕ, ◌≡◌, ◌<◌, List, ◌++◌, length, ⊤, Option, Result, Ok, Err}
+use Rattle.std.specs.Io.KnownBytes.{Appends}
+use Rattle.program_io.specs.declared.Failure.{Failure}
+use Rattle.program_io.specs.declared.Failure.TheVariants.{Input, Output}
 
-abbrev pub is_all : Written → Bool
-is_all (Cut done last) = false
-is_all (All done) = true
+-- after what it held the output holds a part of the text, and not all
+abbrev pub SentPart : (held held' : Option (List ℕ)) → (text : List ℕ) → Type 0
+SentPart held held' text = (part left : List ℕ) × (text ≡ part ++ left) × (0 < length left) × Appends held held' part
 
--- writing ends where a write takes nothing more, or where all of the text's bytes are written
-abbrev pub Sent : (bytes : ℕ) → Written → Type 0
-Sent bytes (Cut done last) = (done < bytes) × (last ≡ 0)
-Sent bytes (All done) = done ≡ bytes
+-- The output holds the whole text after what it held; or, where a write failed or took nothing, a part of it.
+abbrev pub Sent : (held held' : Option (List ℕ)) → (text : List ℕ) → Result ⊤ Failure → Type 0
+Sent held held' text (Ok done) = Appends held held' text
+Sent held held' text (Err (Output error)) = SentPart held held' text
+Sent held held' text (Err (Input error)) = ⊥

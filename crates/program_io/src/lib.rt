@@ -1,126 +1,66 @@
 // What the programs read and write with.
 #![tactic(auto)]
 
-ghost use Rattle.std.specs.Prelude.{◌≡◌, length};
 ghost use Rattle.program_io.specs.Input.{Counted};
-ghost use Rattle.program_io.specs.Output.{is_all, Sent};
+ghost use Rattle.program_io.specs.Output.{Sent};
 
 use std::io::{Cursor, Read, Write};
-use std::{io, str};
+use std::{fmt, io, str};
 
-// What was read: so many bytes, after which a read put this many more into the buffer, none; or as many as the buffer has.
-#[derive(Clone, Copy)]
-pub enum Input {
-    Failed,
-    Ended(usize, usize),
-    Full(usize),
+// Why a program ends early.
+#[derive(Clone, Copy, Debug)]
+pub enum Failure {
+    Input(io::Error),
+    Output(io::Error),
 }
 
-// What was written: so many bytes, after which a write took this many more, none; or all.
-#[derive(Clone, Copy)]
-pub enum Written {
-    Cut(usize, usize),
-    All(usize),
-}
-
-// A stream, and the error of its last call that failed; before any, that of errno 0, "Success".
-#[derive(Drop)]
-pub struct Noted<S> {
-    pub stream: S,
-    pub error: io::Error,
-}
-
-impl<S> Noted<S> {
-    pub fn new(stream: S) -> Noted<S>
-        ensures { result.stream ≡ stream }
-    {
-        Noted {
-            stream,
-            error: io::Error::from_raw_os_error(0),
+// Which stream failed, and why in the system's words, without the number that `{error}` adds.
+impl fmt::Display for Failure {
+    fn fmt<W: fmt::Write>(&self, f: &mut fmt::Formatter<W>) -> fmt::Result {
+        let (stream, error) = match self {
+            Failure::Input(error) => ("standard input", error),
+            Failure::Output(error) => ("standard output", error),
+        };
+        let mut text = Cursor::new([0u8; 256]);
+        write!(text, "{error}").map_err(|_| fmt::Error)?;
+        let bytes = text.into_inner();
+        let text = str::from_utf8(&bytes).unwrap_or("");
+        match text.split_once(" (os error ") {
+            Some((words, _)) => write!(f, "{stream}: {words}"),
+            None => write!(f, "{stream}: {error}"),
         }
     }
 }
 
-impl<S: Read> Read for Noted<S> {
-    fn read(&mut self, buffer: &mut [u8]) -> io::Result<usize> {
-        let got = self.stream.read(buffer);
-        if let Err(error) = got {
-            self.error = error;
-        }
-        got
-    }
-}
-
-impl<S: Write> Write for Noted<S> {
-    fn write(&mut self, text: &[u8]) -> io::Result<usize> {
-        let put = self.stream.write(text);
-        if let Err(error) = put {
-            self.error = error;
-        }
-        put
-    }
-
-    fn flush(&mut self) -> io::Result<()> {
-        self.stream.flush()
-    }
-}
-
-// Fills the buffer as far as the input goes. A call that a signal interrupts has failed.
-pub fn read_input(input: &mut impl Read, buffer: &mut [u8]) -> Input
-    ensures { Counted (length buffer.new) result }
+// Fills the buffer as far as the input goes, and answers how far. A call that a signal interrupts has failed.
+// The loop stays: that an interrupted call has failed is a rule of the project (docs/DECISIONS.md), and `read_exact` makes the call again. It does
+// not say either how far a short input went.
+pub fn read_input<R: Read>(input: &mut R, buffer: &mut [u8]) -> Result<usize, Failure>
+    ensures { Counted (R.remaining input.old) (R.remaining input.new) buffer.new result }
 {
-    let most = buffer.len();
     let mut count = 0;
-    while count < most {
-        let more = match input.read(&mut buffer[count..most]) {
-            Ok(more) => more,
-            Err(_) => return Input::Failed,
-        };
-        if more == 0 {
-            return Input::Ended(count, more);
+    while count < buffer.len() {
+        match input.read(&mut buffer[count..]) {
+            Ok(0) => return Ok(count),
+            Ok(more) => count += more,
+            Err(error) => return Err(Failure::Input(error)),
         }
-        count += more;
     }
-    Input::Full(count)
+    Ok(count)
 }
 
-// Writes the text, as far as the output takes it. A call that fails takes nothing.
-pub fn write(output: &mut impl Write, text: &[u8]) -> Written
-    ensures { Sent (length text.now) result }
+// Writes the whole text. Where the output takes nothing of the rest, the error is that of errno 0, "Success".
+// The loop stays, by the same rule: `write_all` makes an interrupted call again, and says other words where nothing is taken.
+pub fn write<W: Write>(output: &mut W, text: &[u8]) -> Result<(), Failure>
+    ensures { Sent (W.contents output.old) (W.contents output.new) text.now result }
 {
-    let end = text.len();
-    let mut done = 0;
-    while done < end {
-        let taken = match output.write(&text[done..end]) {
-            Ok(taken) => taken,
-            Err(_) => 0,
-        };
-        if taken == 0 {
-            return Written::Cut(done, taken);
+    let mut rest = text;
+    while !rest.is_empty() {
+        match output.write(rest) {
+            Ok(0) => return Err(Failure::Output(io::Error::from_raw_os_error(0))),
+            Ok(taken) => rest = &rest[taken..],
+            Err(error) => return Err(Failure::Output(error)),
         }
-        done += taken;
     }
-    Written::All(done)
-}
-
-// Whether nothing is left to write.
-pub fn is_all(written: Written) -> bool
-    ensures { result ≡ is_all written }
-{
-    match written {
-        Written::Cut(_, _) => false,
-        Written::All(_) => true,
-    }
-}
-
-// Standard error says what failed, and why in the system's words, without the number that `{error}` adds.
-pub fn tell_failure(rt: &impl Eprint, what: &str, error: io::Error) -> io::Result<()> {
-    let mut text = Cursor::new([0u8; 256]);
-    write!(text, "{error}")?;
-    let bytes = text.into_inner();
-    let text = str::from_utf8(&bytes).unwrap_or("");
-    match text.split_once(" (os error ") {
-        Some((words, _)) => eprintln!(rt; "{what}: {words}"),
-        None => eprintln!(rt; "{what}: {error}"),
-    }
+    Ok(())
 }

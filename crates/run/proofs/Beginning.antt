@@ -28,76 +28,70 @@ module _ (s : Settings) (memory work frames : List Float) where
         ap (λ (o : Option ℕ). option o Some (cond (holds_nan (first_state s)) (Some 13) None)) given
         ∙ ap (λ (x : Bool). cond x (Some 13) None) (ap holds_nan (sym made) ∙ sym h)
 
-    -- and stored in state memory, unless it holds a NaN
-    module _ (refused : Bool) (told : refused ≡ holds_nan (next_in s t w)) (memory' : List Float)
-        (stored : memory' ≡ cond refused memory (put 0 (part (cell_count s) (cell_count s) w) memory)) where
-      left_as : (b : Bool) → refused ≡ b → memory' ≡ cond b memory (put 0 (part (cell_count s) (cell_count s) w) memory)
-      left_as b e = stored ∙ ap (λ (x : Bool). cond x memory (put 0 (part (cell_count s) (cell_count s) w) memory)) e
+    -- an initial state that holds a NaN
+    pub begin_nan :
+        holds_nan (next_in s t w) ≡ true →
+        ◌≡◌ {A = AfterBegin} (record { answer = refused_begin 13; memory = memory; frames = frames }) (begin_of s memory work frames)
+    begin_nan h = sym (begin_some s memory work frames 13 (refusal_is true (sym h)))
 
-      pub begin_nan :
-          refused ≡ true →
-          ◌≡◌ {A = AfterBegin} (record { answer = refused_begin 13; memory = memory'; frames = frames }) (begin_of s memory work frames)
-      begin_nan e =
-          ap (λ (m : List Float). record { answer = refused_begin 13; memory = m; frames = frames }) (left_as true e)
-          ∙ sym (begin_some s memory work frames 13 (refusal_is true (sym e ∙ told)))
+    -- and one that holds none, stored in state memory
+    module _ (fine : holds_nan (next_in s t w) ≡ false) (memory' : List Float) (stored : memory' ≡ put 0 (part (cell_count s) (cell_count s) w) memory) where
+      memory_is : memory' ≡ with_state (first_state s) memory
+      memory_is = stored ∙ stored_is s t w memory wide ∙ ap (λ (a : State). with_state a memory) made
 
-      module _ (fine : refused ≡ false) where
-        memory_is : memory' ≡ with_state (first_state s) memory
-        memory_is = left_as false fine ∙ stored_is s t w memory wide ∙ ap (λ (a : State). with_state a memory) made
+      time_is : t ≡ (first_state s).time
+      time_is = sym (time_in s t (part (cell_count s) (cell_count s) w)) ∙ ap (λ (a : State). a.time) made
 
-        time_is : t ≡ (first_state s).time
-        time_is = sym (time_in s t (part (cell_count s) (cell_count s) w)) ∙ ap (λ (a : State). a.time) made
+      -- the machine at the start, by whether frames are skipped
+      abbrev started : Bool → Machine
+      started skip = record { state = first_state s; steps = 0; broken = false; frames = cond skip [] (frame_of s (first_state s) ∷ []) }
 
-        -- the machine at the start, by whether frames are skipped
-        abbrev started : Bool → Machine
-        started skip = record { state = first_state s; steps = 0; broken = false; frames = cond skip [] (frame_of s (first_state s) ∷ []) }
+      start_is : started s.skip ≡ start s
+      unfolding start
+      start_is = refl
 
-        start_is : started s.skip ≡ start s
-        unfolding start
-        start_is = refl
+      begins :
+          (skip : Bool) → s.skip ≡ skip → (frames' : List Float) → frames' ≡ with_frames (started skip).frames frames →
+          ◌≡◌ {A = AfterBegin}
+          (record {
+            answer = accepted (record { settings = s; time = t; steps = 0; broken = false }) (length (started skip).frames);
+            memory = memory';
+            frames = frames';
+          })
+          (begin_of s memory work frames)
+      begins skip k frames' hf =
+          (λ i.
+          record {
+            answer = accepted (record { settings = s; time = time_is i; steps = 0; broken = false }) (length (started skip).frames);
+            memory = memory_is i;
+            frames = hf i;
+          })
+          ∙ ap
+          (λ (m : Machine).
+          record {
+            answer = accepted (record_of s m) (length m.frames);
+            memory = with_state m.state memory;
+            frames = with_frames m.frames frames;
+          })
+          (ap started (sym k) ∙ start_is)
+          ∙ sym (begin_none s memory work frames (refusal_is false (sym fine)))
 
-        begins :
-            (skip : Bool) → s.skip ≡ skip → (frames' : List Float) → frames' ≡ with_frames (started skip).frames frames →
-            ◌≡◌ {A = AfterBegin}
-            (record {
-              answer = accepted (record { settings = s; time = t; steps = 0; broken = false }) (length (started skip).frames);
-              memory = memory';
-              frames = frames';
-            })
-            (begin_of s memory work frames)
-        begins skip k frames' hf =
-            (λ i.
-            record {
-              answer = accepted (record { settings = s; time = time_is i; steps = 0; broken = false }) (length (started skip).frames);
-              memory = memory_is i;
-              frames = hf i;
-            })
-            ∙ ap
-            (λ (m : Machine).
-            record {
-              answer = accepted (record_of s m) (length m.frames);
-              memory = with_state m.state memory;
-              frames = with_frames m.frames frames;
-            })
-            (ap started (sym k) ∙ start_is)
-            ∙ sym (begin_none s memory work frames (refusal_is false (sym fine ∙ told)))
+      pub begin_skipped :
+          s.skip ≡ true →
+          ◌≡◌ {A = AfterBegin}
+          (record { answer = accepted (record { settings = s; time = t; steps = 0; broken = false }) 0; memory = memory'; frames = frames })
+          (begin_of s memory work frames)
+      unfolding flatten
+      begin_skipped k = begins true k frames (sym (put_nothing 0 frames))
 
-        pub begin_skipped :
-            s.skip ≡ true →
-            ◌≡◌ {A = AfterBegin}
-            (record { answer = accepted (record { settings = s; time = t; steps = 0; broken = false }) 0; memory = memory'; frames = frames })
-            (begin_of s memory work frames)
-        unfolding flatten
-        begin_skipped k = begins true k frames (sym (put_nothing 0 frames))
-
-        pub begin_framed :
-            s.skip ≡ false → (frames' : List Float) → frames' ≡ put 0 (frame_of s (state_in s t memory')) frames →
-            ◌≡◌ {A = AfterBegin}
-            (record { answer = accepted (record { settings = s; time = t; steps = 0; broken = false }) 1; memory = memory'; frames = frames' })
-            (begin_of s memory work frames)
-        unfolding flatten
-        begin_framed k frames' hf =
-            begins false k frames'
-            (hf
-            ∙ ap (λ (a : State). put 0 (frame_of s a) frames) (ap (state_in s t) (left_as false fine) ∙ stored_state s t w memory wide ∙ made)
-            ∙ ap (λ (f : List Float). put 0 f frames) (sym (append-nil (frame_of s (first_state s)))))
+      pub begin_framed :
+          s.skip ≡ false → (frames' : List Float) → frames' ≡ put 0 (frame_of s (state_in s t memory')) frames →
+          ◌≡◌ {A = AfterBegin}
+          (record { answer = accepted (record { settings = s; time = t; steps = 0; broken = false }) 1; memory = memory'; frames = frames' })
+          (begin_of s memory work frames)
+      unfolding flatten
+      begin_framed k frames' hf =
+          begins false k frames'
+          (hf
+          ∙ ap (λ (a : State). put 0 (frame_of s a) frames) (ap (state_in s t) stored ∙ stored_state s t w memory wide ∙ made)
+          ∙ ap (λ (f : List Float). put 0 f frames) (sym (append-nil (frame_of s (first_state s)))))

@@ -1,5 +1,5 @@
 -- What the functions of src/model.rt return, from what the functions of the layers below ensure.
-use Rattle.std.proofs.Common.{◌≡◌, ℕ, ◌-◌, ◌*◌, ◌≤◌, Bool, ◌&&◌, List, length, take, drop, sym, refl, ap, ◌∙◌, ap₂, arith, le-leb}
+use Rattle.std.proofs.Common.{◌≡◌, ℕ, ◌+◌, ◌-◌, ◌*◌, ◌≤◌, Bool, ◌&&◌, List, length, take, drop, sym, refl, ap, ◌∙◌, ap₂, arith, le-leb}
 use Rattle.std.specs.Prelude.{None}
 use lib.Ieee.{Float, binary64, of_bits, add, lt}
 use Rattle.vectors.specs.Fault.{fault_of}
@@ -22,8 +22,9 @@ use Rattle.physics.specs.BlackHole.{black_hole_mass_of, state_black_hole_mass}
 use Rattle.run.specs.declared.settings.Settings.{Settings}
 use Rattle.run.specs.declared.adaptive_time_step.TimeStep.{TimeStep}
 use Rattle.run.specs.Clock.{delta_of, is_frame_step}
-use Rattle.run.specs.Model.{fault_at, cell_count, work_count, state_in, holds_nan, mass_at, is_late, first_state, delta_next, frames_next, step_of}
-use Rattle.run.specs.ModelLaws.{sound_level}
+use Rattle.run.specs.Model.{fault_at, cell_count, work_count, frame_count, state_in, holds_nan, mass_at, is_late, first_state, delta_next, frames_next, step_of}
+use Rattle.run.specs.FrameWriting.{FrameRoom}
+use Rattle.run.specs.ModelLaws.{sound_level, sound_settings}
 use Rattle.run.specs.Answers.{next_in, ClockOf, Lent}
 
 pub time_in : (s : Settings) (time : Float) (memory : List Float) → (state_in s time memory).time ≡ time
@@ -77,6 +78,12 @@ module _ (s : Settings) (time : Float) (memory : List Float) (k : ℕ) (e : k �
         delta = d ∙ ap (delta_of s time) lent_radial ∙ ap (λ (t : Float). delta_of s t (state_in s time memory).radial_factor) (sym (time_in s time memory));
         framed = f ∙ ap (is_frame_step s time) lent_radial ∙ ap (λ (t : Float). is_frame_step s t (state_in s time memory).radial_factor) (sym (time_in s time memory));
       }
+
+-- ---- the memories of a run, as the writer of a frame asks for them
+pub frame_room : (s : Settings) (state work frames at : ℕ) → Lent s state work → at + frame_count s ≤ frames → FrameRoom s state work frames at
+unfolding frame_count
+frame_room s state work frames at lent fits =
+    record { settings = sound_settings s lent.sound; state = lent.state_fits; work = lent.work_fits; frames = fits }
 
 -- ---- a state that the physics made in work memory
 module _ (s : Settings) where

@@ -1,19 +1,18 @@
 -- What the contracts of src/ cite beside the definitions of 01: its numbers and values for each case of an answer, and where the code keeps
 -- what the definitions speak of. Definitions only.
-use Rattle.std.specs.Prelude.{◌≡◌, ℕ, ◌+◌, ◌*◌, ◌^◌, ◌<◌, ◌≤◌, Bool, true, false, cond, List, length, drop, Float}
+use Rattle.std.specs.Prelude.{◌≡◌, ℕ, ◌+◌, ◌-◌, ◌*◌, ◌^◌, ◌<◌, ◌≤◌, Bool, true, false, List, length, drop, nat_lt, Float}
 use mathlib.Core.List.{flatten}
 use Rattle.std.specs.Prelude.{None, Result, Ok, Err}
 use Rattle.vectors.specs.Memory.{part, put}
 use Rattle.physics.specs.State.{State}
 use Rattle.run.specs.declared.settings.Settings.{Settings}
-use Rattle.run.specs.declared.settings.Record.{Record}
 use Rattle.run.specs.declared.refusal.Refusal.{Refusal}
 use Rattle.run.specs.declared.adaptive_time_step.TimeStep.{TimeStep}
 use Rattle.run.specs.declared.simulate.Answer.{Answer}
 use Rattle.run.specs.declared.simulate.Answer.TheVariants as answer
 use Rattle.run.specs.declared.simulate.Advanced.{Advanced}
 use Rattle.run.specs.declared.simulate.Begun.{Begun}
-use Rattle.run.specs.declared.simulate.Live.{Live}
+use Rattle.run.specs.declared.live.Live.{Live}
 use Rattle.run.specs.declared.skip_run.Ended.{Ended}
 use Rattle.run.specs.declared.skip_run.NotRun.{NotRun}
 use Rattle.run.specs.declared.skip_run.NotRun.TheVariants as not_run-case
@@ -21,7 +20,7 @@ use Rattle.run.specs.Model.{fault_at, cell_count, work_count, frame_count, state
 use Rattle.run.specs.Outcome.{meant_by}
 use Rattle.run.specs.PlainRun.{Machine, has_ended, attempt}
 use Rattle.run.specs.Tally.{Reply, refused, full, ran}
-use Rattle.run.specs.Calls.{Began, refused_begin, accepted, AfterBegin, AfterAdvance, record_of, machine_of, with_state}
+use Rattle.run.specs.Calls.{advance_of, advance_uses, Began, refused_begin, accepted, AfterBegin, AfterAdvance, record_of, machine_of, with_state}
 use Rattle.run.specs.Refusal.{number_of}
 use Rattle.run.specs.SkipRun.{Ran, not_begun, not_run, ran_to}
 
@@ -58,13 +57,6 @@ after_advance a memory frames = record { reply = reply_of a.answer; record' = a.
 abbrev pub next_in : Settings → Float → List Float → State
 next_in s time work = state_in s time (part (cell_count s) (cell_count s) work)
 
--- the record after an attempt whose next state has this time: "only the broken mark is set", or "it replaces the state, steps rises by 1"
-abbrev pub record_after : Record → Float → Bool → Record
-record_after r time broken =
-    cond broken
-    (record { settings = r.settings; time = r.time; steps = r.steps; broken = true })
-    (record { settings = r.settings; time = time; steps = r.steps + 1; broken = r.broken })
-
 -- the clock is the one of this state
 pub record ClockOf (s : Settings) (a : State) (c : TimeStep) : Type 0 where
   pub delta : c.delta ≡ delta_next s a
@@ -76,23 +68,49 @@ pub record Lent (s : Settings) (state work : ℕ) : Type 0 where
   pub state_fits : cell_count s ≤ state
   pub work_fits : work_count s ≤ work
 
--- an attempt of the run `live` can be made: it has not ended, the clock is its own, and a frame that is due has room
-pub record CanAttempt (live : Live) (clock : TimeStep) (memory work frames : List Float) : Type 0 where
-  pub lent : Lent live.run.settings (length memory) (length work)
-  pub timed : ClockOf live.run.settings (state_in live.run.settings live.run.time memory) clock
-  pub going : has_ended live.run.settings (machine_of live.run memory) ≡ false
-  pub counted : live.run.steps + 1 < 2 ^ 32
-  pub fits : live.count * frame_count live.run.settings ≤ length frames
-  pub room : clock.framed ≡ true → live.count * frame_count live.run.settings + frame_count live.run.settings ≤ length frames
+-- the state of a run that a call goes on with, and its machine before this call's first frame
+abbrev pub state_now : Live → State
+state_now a = state_in a.run.settings a.run.time a.state.now
 
--- what an attempt leaves of the run `live` and its memories: the machine after it, and a frame of its own behind those that the call wrote before
-module _ (live : Live) (memory : List Float) where
+abbrev pub machine_in : Live → Machine
+machine_in a = machine_of a.run a.state.now
+
+-- fewer numbers of its frame memory are left than a frame has
+abbrev pub lacks_room : Live → Bool
+lacks_room a =
+    let F = frame_count a.run.settings in nat_lt (length a.frames.now - a.count * F) F
+
+-- it can make an attempt: it has not ended, the clock is its own, and a frame that is due has room
+pub record CanAttempt (a : Live) (clock : TimeStep) : Type 0 where
+  pub timed : ClockOf a.run.settings (state_now a) clock
+  pub going : has_ended a.run.settings (machine_in a) ≡ false
+  pub counted : a.run.steps + 1 < 2 ^ 32
+  pub room : clock.framed ≡ true → (a.count + 1) * frame_count a.run.settings ≤ length a.frames.now
+
+-- the same memories were lent
+pub record SameMemories (a b : Live) : Type 0 where
+  pub state : b.state.ghost_name ≡ a.state.ghost_name
+  pub work : b.work.ghost_name ≡ a.work.ghost_name
+  pub frames : b.frames.ghost_name ≡ a.frames.ghost_name
+
+module _ (a : Live) where
   abbrev pub attempted : Machine
-  attempted = attempt live.run.settings (machine_of live.run memory)
+  attempted = attempt a.run.settings (machine_in a)
 
-  pub record Attempted (work frames : List Float) (after : Live) (memory' work' frames' : List Float) : Type 0 where
-    pub record_is : after.run ≡ record_of live.run.settings attempted
-    pub count_is : after.count ≡ live.count + length attempted.frames
-    pub memory_is : memory' ≡ with_state attempted.state memory
-    pub frames_is : frames' ≡ put (live.count * frame_count live.run.settings) (flatten attempted.frames) frames
-    pub work_is : drop (work_count live.run.settings) work' ≡ drop (work_count live.run.settings) work
+  -- what an attempt leaves: the machine after it, and a frame of its own behind those that the call wrote before
+  pub record Attempted (b : Live) : Type 0 where
+    pub memories : SameMemories a b
+    pub record_is : b.run ≡ record_of a.run.settings attempted
+    pub count_is : b.count ≡ a.count + length attempted.frames
+    pub memory_is : b.state.now ≡ with_state attempted.state a.state.now
+    pub frames_is : b.frames.now ≡ put (a.count * frame_count a.run.settings) (flatten attempted.frames) a.frames.now
+    pub work_is : drop (work_count a.run.settings) b.work.now ≡ drop (work_count a.run.settings) a.work.now
+
+  -- what an advance answers and leaves
+  pub record AdvanceLeaves (budget : ℕ) (answer : Result Answer Refusal) (b : Live) : Type 0 where
+    pub memories : SameMemories a b
+    pub left :
+        record { reply = reply_of answer; record' = b.run; memory = b.state.now; frames = b.frames.now }
+        ≡ advance_of a.run a.state.now a.work.now a.frames.now budget
+    pub work_is :
+        let k = advance_uses a.run a.state.now (length a.work.now) budget in drop k b.work.now ≡ drop k a.work.now

@@ -1,6 +1,6 @@
 -- 01, "Orders (added)": an order carried out a call at a time: what each call answers and leaves in the memories that it was lent, its lines
 -- in lent bytes. Definitions only.
-use Rattle.std.specs.Prelude.{◌≡◌, ℕ, zero, suc, ◌+◌, ◌-◌, ◌*◌, ◌≤◌, Bool, cond, List, [], ◌∷◌, ◌++◌, map, length, take, nat_le, nat_lt, Float}
+use Rattle.std.specs.Prelude.{ℕ, zero, suc, ◌+◌, ◌-◌, ◌*◌, ◌≤◌, Bool, cond, List, [], ◌∷◌, ◌++◌, map, length, take, nat_le, nat_lt, Float}
 use Rattle.std.specs.Prelude.{Option, None, Some, Result, Ok, Err}
 use Rattle.vectors.specs.Memory.{put}
 use Rattle.run.specs.declared.settings.Record.{Record}
@@ -140,11 +140,6 @@ abbrev pub Fits : Job → Reply → Type 0
 Fits j (refused n) = Unit {0}
 Fits j (full a k) = a ≤ j.rest
 Fits j (ran o k) = Unit {0}
-
--- this text was written from the first byte on, and ends at `end`
-pub record Writes (text before after : List ℕ) (end : ℕ) : Type 0 where
-  pub is : after ≡ put 0 text before
-  pub ends : end ≡ length text
 
 -- ---- calls until nothing is left
 -- what is printed of a call, as many of the lent bytes as it answers, and then by those after it

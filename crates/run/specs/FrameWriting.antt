@@ -1,11 +1,12 @@
--- What the functions that write a frame ask and leave, and that together they leave the frame.
-use Rattle.std.specs.Prelude.{◌≡◌, ℕ, ◌+◌, ◌-◌, ◌*◌, ◌^◌, ◌<◌, ◌≤◌, List, [], ◌∷◌, ◌++◌, length, slice_index_or, refl, Float}
-use Rattle.std.proofs.Common.{append_assoc, arith, length-append}
+-- What the functions that write a frame ask and leave, and that it is the frame.
+use Rattle.run.specs.WriteLaws.{Wrote, wrote_both}
+use Rattle.vectors.specs.MemoryLaws.{length_tab}
+use Rattle.std.specs.Prelude.{[], length, refl, ◌≡◌, ℕ, ◌+◌, ◌-◌, ◌*◌, ◌^◌, ◌<◌, ◌≤◌, List, ◌∷◌, ◌++◌, slice_index_or, Float}
+use Rattle.std.proofs.Common.{arith, length-append, append_assoc}
 use Rattle.std.specs.Float.{nan}
 use Rattle.vectors.specs.Grid.{points_of, spacing_of}
 use Rattle.vectors.specs.GridLaws.{Level}
 use Rattle.vectors.specs.Memory.{tab, part}
-use Rattle.vectors.specs.MemoryLaws.{length_tab}
 use Rattle.vectors.specs.Stencil.{diff_of}
 use Rattle.physics.specs.State.{state_in}
 use Rattle.physics.specs.TotalEnergy.{last_of, total_energy_of}
@@ -13,7 +14,6 @@ use Rattle.run.specs.declared.settings.Settings.{Settings}
 use Rattle.run.specs.Frames.{samples_of, frame_size_of, sample_of, frame_of}
 use Rattle.run.specs.FramesLaws.{sample_inside}
 use Rattle.run.specs.InputsLaws.{Accepted}
-use Rattle.run.specs.WriteLaws.{Wrote, wrote_both}
 
 -- ---- samples by their step and count
 abbrev pub every_of : ℕ → ℕ → List Float → List Float

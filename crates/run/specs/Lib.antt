@@ -40,3 +40,4 @@ pub mod SkipRunLaws
 pub mod SkippedRun
 pub mod Tally
 pub mod WriteLaws
+pub mod Written

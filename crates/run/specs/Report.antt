@@ -1,5 +1,5 @@
 -- 01, "Orders": the lines that the program prints, as lists of bytes. Definitions only.
-use Rattle.std.specs.Prelude.{◌≡◌, ℕ, zero, suc, ◌+◌, ◌/◌, ◌%◌, ◌≤◌, cond, List, [], ◌∷◌, ◌++◌, length, nat_le, nat_lt, to_bits, Float, Option, None, Some}
+use Rattle.std.specs.Prelude.{ℕ, zero, suc, ◌+◌, ◌/◌, ◌%◌, cond, List, [], ◌∷◌, ◌++◌, length, nat_le, nat_lt, to_bits, Float, Option, None, Some}
 use Rattle.std.specs.Float.{binary64}
 use Rattle.vectors.specs.Memory.{put}
 use Rattle.run.specs.Ascii.{bytes_of}
@@ -118,12 +118,3 @@ reported_of (Some end) = ends_at end
 
 abbrev pub after_writing : Option ℕ → List ℕ → AfterWriting
 after_writing answer bytes = record { answer = reported_of answer; bytes = bytes }
-
--- ---- what the parts of a line promise
-
--- `text` was put at `at`, where there was room for `most` bytes, and ends at `end`
-pub record Puts (most at : ℕ) (text before after : List ℕ) (end : ℕ) : Type 0 where
-  pub is : after ≡ put at text before
-  pub ends : end ≡ at + length text
-  pub within : end ≤ at + most
-  pub long : length after ≡ length before

@@ -17,7 +17,8 @@ pub struct TimeStep {
     pub framed: bool,
 }
 
-// The next time step, which lands on a frame boundary if one is within the base time step.
+// The next time step, which lands on a frame boundary if one is within the base time step. Settings and time stay two parameters, as the
+// definitions have them: a struct of both would be made for this one call.
 #[tactic(auto, unfolding(crate::specs::Clock::is_frame_step, crate::specs::Clock::delta_of))]
 pub fn next(s: Settings, time: f64, radial_factor: &[f64]) -> TimeStep
     ensures { (result.delta ≡ delta_of s time radial_factor.now)

@@ -1,4 +1,5 @@
-// Little-endian numbers in a list of bytes. A byte past the end is 0.
+// Little-endian numbers in a list of bytes. A byte past the end is 0. A slice and a place, as `get` takes them: a struct of both would be made for
+// one call.
 ghost use Rattle.std.specs.Prelude.{◌≡◌, ◌+◌};
 ghost use Rattle.vectors.specs.Memory.{tab};
 ghost use Rattle.run.specs.Bytes.{byte_at, little, float_at};

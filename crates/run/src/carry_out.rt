@@ -3,19 +3,19 @@ ghost use Rattle.std.specs.Prelude.{◌≡◌, ◌+◌, ◌*◌, ◌≤◌, map,
 ghost use Rattle.vectors.specs.Memory.{put};
 ghost use Rattle.run.specs.Model.{frame_count};
 ghost use Rattle.run.specs.Tally.{ran};
-ghost use Rattle.run.specs.Calls.{begin_uses, frames_in, frames_told};
+ghost use Rattle.run.specs.Calls.{frames_in, frames_told};
 ghost use Rattle.run.specs.Answers.{reply_of};
-ghost use Rattle.run.specs.Order.{Order};
 ghost use Rattle.run.specs.Lines.{frame, outcome, texts_of, reply_lines};
 ghost use Rattle.run.specs.LinesLaws.{Long};
 ghost use Rattle.run.specs.Outcome.{meant_by};
-ghost use Rattle.run.specs.CarryOut.{advance_at, left_after, after_carried, has_room, room_for, begin_read, Fits, Writes, go_on_of, go_on_uses, begin_order_of, begin_order_uses};
+ghost use Rattle.run.specs.Written.{Room, Written};
+ghost use Rattle.run.specs.CarryOut.{advance_at, left_after, after_carried, has_room, room_for, Fits, go_on_of, go_on_uses, begin_order_of, begin_order_uses};
 
-use crate::order::{Places, nth_budget, read_order};
-use crate::report::{frame_in, outcome_in, refusal_at_in, refusal_in};
+use crate::order::{nth_budget, read_order};
 use crate::settings::{Record, Settings};
 use crate::simulate::{Advanced, Answer, advance, begin};
 use crate::state_output_builder::frame_size;
+use crate::writer::Writer;
 
 // The longest order that is read.
 const LONGEST_ORDER: usize = 4096;
@@ -45,7 +45,8 @@ pub struct Lines {
 #[derive(Clone, Copy, Debug, PartialEq, Eq)]
 pub struct NoRoom;
 
-// Checks the whole order and begins its run.
+// Checks the whole order and begins its run. The memories are lent one by one, here and below: a struct of them would be made anew for each call,
+// since each goes back to the caller.
 #[tactic(auto, unfolding(crate::specs::CarryOut::begin_order_of, crate::specs::CarryOut::begin_order_uses))]
 pub fn begin_order(
     input: &[u8],
@@ -60,27 +61,9 @@ pub fn begin_order(
     if !has_room(frames.len(), out.len()) {
         return Err(NoRoom);
     }
-    if input.len() > LONGEST_ORDER {
-        return Ok(Lines {
-            end: refusal_in(out, 0, LONGER),
-            next: None,
-        });
-    }
-    match read_order(input) {
-        Err(misread) => Ok(Lines {
-            end: refusal_at_in(out, 0, misread.fault.into(), misread.position),
-            next: None,
-        }),
-        Ok(order) => Ok(begin_run(
-            order.settings,
-            order.places,
-            input,
-            state,
-            work,
-            frames,
-            out,
-        )),
-    }
+    let mut w = Writer { out, at: 0 };
+    let next = begin_lines(input, state, work, frames, &mut w);
+    Ok(Lines { end: w.at, next })
 }
 
 // Goes on with an order: one call of advance.
@@ -100,36 +83,50 @@ pub fn go_on(
         return Err(NoRoom);
     }
     let done = advance(job.run, state, work, frames, job.rest);
+    let mut w = Writer { out, at: 0 };
+    w.reply(frames, done);
     Ok(Lines {
-        end: lines_in(out, frames, done),
+        end: w.at,
         next: left_after(input, job, done),
     })
 }
 
-// The begin of an order, with room for its lines.
-#[tactic(auto, unfolding(crate::specs::Model::frame_count))]
-fn begin_run(
-    settings: Settings,
-    places: Places,
+// The lines of the begin of an order, from the first byte on; answers what is left of it.
+#[tactic(auto, unfolding(crate::specs::CarryOut::begin_order_of, crate::specs::CarryOut::begin_order_uses, crate::specs::Model::frame_count))]
+fn begin_lines(
     input: &[u8],
     state: &mut [f64],
     work: &mut [f64],
     frames: &mut [f64],
-    out: &mut [u8],
-) -> Lines
-    requires { room_for (length frames.old) ≤ length out.old }
-    ensures out_after { after_carried (Ok result) state.new frames.new out.new ≡ begin_read input.now state.old work.old frames.old out.old (Order settings places) }
-    ensures work_unchanged { drop (begin_uses settings (length state.old) (length work.old) (length frames.old)) work.new ≡ drop (begin_uses settings (length state.old) (length work.old) (length frames.old)) work.old }
+    w: &mut Writer<'_, u8>,
+) -> Option<Job>
+    requires first { w.old.at ≡ 0 }
+    requires room { room_for (length frames.old) ≤ length w.old.out.now }
+    ensures memory { w.new.out.ghost_name ≡ w.old.out.ghost_name }
+    ensures out_after { after_carried (Ok (record { end = w.new.at; next = result })) state.new frames.new w.new.out.now ≡ begin_order_of input.now state.old work.old frames.old w.old.out.now }
+    ensures work_unchanged { drop (begin_order_uses input.now (length state.old) (length work.old) (length frames.old) (length w.old.out.now)) work.new ≡ drop (begin_order_uses input.now (length state.old) (length work.old) (length frames.old) (length w.old.out.now)) work.old }
 {
-    match begin(settings, state, work, frames) {
-        Err(refusal) => Lines {
-            end: refusal_in(out, 0, refusal.into()),
-            next: None,
-        },
-        Ok(begun) => Lines {
-            end: frames_in(out, frames, begun.count, frame_size(begun.record.settings)),
-            next: advance_at(input, begun.record, places.advances, 0, places.count),
-        },
+    if input.len() > LONGEST_ORDER {
+        w.refusal(LONGER);
+        return None;
+    }
+    let order = match read_order(input) {
+        Ok(order) => order,
+        Err(misread) => {
+            w.refusal_at(misread.fault.into(), misread.position);
+            return None;
+        }
+    };
+    match begin(order.settings, state, work, frames) {
+        Ok(begun) => {
+            w.frames(frames, begun.count, frame_size(begun.record.settings));
+            let places = order.places;
+            advance_at(input, begun.record, places.advances, 0, places.count)
+        }
+        Err(refusal) => {
+            w.refusal(refusal.into());
+            None
+        }
     }
 }
 
@@ -184,35 +181,35 @@ fn left_after(input: &[u8], job: Job, done: Advanced) -> Option<Job>
     next_advance(input, job, done.record)
 }
 
-// The lines of an advance, from the first byte on; answers where they end.
-#[tactic(auto, unfolding(crate::specs::Model::frame_count, crate::specs::Calls::frames_told, crate::specs::Lines::reply_lines))]
-fn lines_in(out: &mut [u8], frames: &[f64], done: Advanced) -> usize
-    requires frames_in_bounds { room_for (length frames.now) ≤ length out.old }
-    requires settings_in_bounds { frames_told (reply_of done.answer) * frame_count done.record.settings ≤ length frames.now }
-    requires long { Long (frame_count done.record.settings) (reply_of done.answer) }
-    ensures { Writes (texts_of (reply_lines (frames_in (frames_told (reply_of done.answer)) (frame_count done.record.settings) frames.now) done.record.steps done.record.time (reply_of done.answer))) out.old out.new result }
-{
-    let run = done.record;
-    match done.answer {
-        Err(refusal) => refusal_in(out, 0, refusal.into()),
-        Ok(Answer::Full(_, count)) => frames_in(out, frames, count, frame_size(run.settings)),
-        Ok(Answer::Ran(outcome, count)) => {
-            let end = frames_in(out, frames, count, frame_size(run.settings));
-            outcome_in(out, end, outcome, run.steps, run.time)
+impl Writer<'_, u8> {
+    // The lines of an advance.
+    #[tactic(auto, using(crate::specs::Written::wider), unfolding(crate::specs::Model::frame_count, crate::specs::Calls::frames_told, crate::specs::Lines::reply_lines))]
+    fn reply(&mut self, frames: &[f64], done: Advanced)
+        requires room { Room (room_for (length frames.now)) self.old }
+        requires settings_in_bounds { frames_told (reply_of done.answer) * frame_count done.record.settings ≤ length frames.now }
+        requires long { Long (frame_count done.record.settings) (reply_of done.answer) }
+        ensures { Written (room_for (length frames.now)) (texts_of (reply_lines (frames_in (frames_told (reply_of done.answer)) (frame_count done.record.settings) frames.now) done.record.steps done.record.time (reply_of done.answer))) self.old self.new }
+    {
+        let run = done.record;
+        match done.answer {
+            Err(refusal) => self.refusal(refusal.into()),
+            Ok(Answer::Full(_, count)) => self.frames(frames, count, frame_size(run.settings)),
+            Ok(Answer::Ran(outcome, count)) => {
+                self.frames(frames, count, frame_size(run.settings));
+                self.outcome(outcome, run.steps, run.time);
+            }
         }
     }
-}
 
-// The lines of the first frames of this size, from the first byte on; answers where they end.
-fn frames_in(out: &mut [u8], frames: &[f64], count: usize, size: usize) -> usize
-    requires frames_in_bounds { room_for (length frames.now) ≤ length out.old }
-    requires size_in_bounds { count * size ≤ length frames.now }
-    requires le_size { 6 ≤ size }
-    ensures { Writes (texts_of (map frame (frames_in count size frames.now))) out.old out.new result }
-{
-    let mut at = 0;
-    for frame in frames.chunks_exact(size).take(count) {
-        at = frame_in(out, at, frame);
+    // The lines of the first frames of this size.
+    fn frames(&mut self, frames: &[f64], count: usize, size: usize)
+        requires room { Room (18 * length frames.now) self.old }
+        requires size_in_bounds { count * size ≤ length frames.now }
+        requires le_size { 6 ≤ size }
+        ensures { Written (18 * length frames.now) (texts_of (map frame (frames_in count size frames.now))) self.old self.new }
+    {
+        for frame in frames.chunks_exact(size).take(count) {
+            self.frame(frame);
+        }
     }
-    at
 }

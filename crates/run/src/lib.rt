@@ -4,6 +4,7 @@
 pub mod adaptive_time_step;
 mod bytes;
 pub mod carry_out;
+mod live;
 mod model;
 pub mod order;
 pub mod outcome;
@@ -15,3 +16,4 @@ pub mod simulation_inputs;
 pub mod skip_run;
 pub mod state_output_builder;
 mod text;
+mod writer;

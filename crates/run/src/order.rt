@@ -80,7 +80,7 @@ pub struct Misread {
 // How many bytes follow the command bytes 00 to 09.
 const OPERAND_SIZES: [usize; 10] = [0, 8, 1, 8, 8, 1, 1, 0, 4, 0];
 
-// How many bytes follow a command byte.
+// How many bytes follow a command byte: any byte, as document 01 names commands by theirs.
 #[tactic(auto, unfolding(crate::specs::Order::operand_size))]
 fn operand_size(code: u8) -> usize
     ensures { result ≡ operand_size code }
@@ -99,7 +99,7 @@ fn switch_of(x: u8) -> Result<Command, Fault>
     Ok(Command::Skip(x == 1))
 }
 
-// The command of a byte whose operand starts at `from`.
+// The command of a byte, any, whose operand starts at `from`. Here 01's numbers become cases.
 #[tactic(auto, using(crate::proofs::Orders::other), unfolding(crate::specs::Order::command_of))]
 fn command_of(input: &[u8], from: usize, code: u8) -> Result<Command, Fault>
     ensures { told_by result ≡ command_of input.now from code }

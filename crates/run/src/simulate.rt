@@ -1,23 +1,24 @@
 // From use_cases/simulate.rs: a run in calls, a begin and then any number of advances.
-ghost use Rattle.std.specs.Prelude.{◌≡◌, ◌+◌, ◌-◌, ◌*◌, ◌^◌, ◌<◌, ◌≤◌, true, false, ◌&&◌, length, drop, if◌then◌else◌, nat_le, nat_lt};
-ghost use Rattle.std.specs.Prelude.{None};
+ghost use Rattle.std.specs.Prelude.{◌≡◌, ◌+◌, ◌^◌, ◌<◌, ◌&&◌, length, drop, if◌then◌else◌, nat_le};
+ghost use Rattle.std.specs.Prelude.{None, Some, Ok};
 ghost use Rattle.std.specs.Float.Ieee.{lt};
-ghost use Rattle.run.specs.Model.{fault_at, cell_count, work_count, frame_count, state_in};
-ghost use Rattle.run.specs.PlainRun.{has_ended, outcome_of};
-ghost use Rattle.run.specs.Tally.{ran, too_short};
-ghost use Rattle.run.specs.Calls.{machine_of, lent_refusal, begin_of, begin_uses, advance_refusal, attempts_from, left_by, advance_of, advance_uses, is_idle};
+ghost use Rattle.run.specs.Model.{fault_at, work_count};
+ghost use Rattle.run.specs.PlainRun.{has_ended, outcome_of, option};
+ghost use Rattle.run.specs.Tally.{too_short};
+ghost use Rattle.run.specs.Calls.{lent_refusal, begin_of, begin_uses, advance_refusal, advance_of, advance_uses};
 ghost use Rattle.run.specs.Outcome.{meant_by};
 ghost use Rattle.run.specs.Refusal.{refusal_of};
-ghost use Rattle.run.specs.Answers.{reply_of, after_begin, after_advance, record_after, CanAttempt, Attempted};
+ghost use Rattle.run.specs.Answers.{after_begin, after_advance, machine_in, lacks_room, CanAttempt, Attempted, AdvanceLeaves};
 
 use crate::adaptive_time_step::TimeStep;
-use crate::model::{
-    clock_at, fault_in, frame_size, has_nan, late, mass_in, room, size, start_state, step,
-    store_next, write_frame,
-};
+use crate::live::Live;
+use crate::model::{has_nan, late, start_state, step, store_next};
 use crate::outcome::Outcome;
 use crate::refusal::Refusal;
 use crate::settings::{Record, Settings};
+use crate::simulation_inputs::validate;
+use crate::state_output_builder::{frame_size, write_frame};
+use physics::state::{state_size, work_size};
 
 // What an advance answers that is not refused: full with the attempts made, or the outcome; each with how many frames it wrote.
 #[derive(Clone, Copy)]
@@ -39,172 +40,124 @@ pub struct Begun {
     pub count: usize,
 }
 
-// A run while an advance goes on: its record, and how many frames the advance wrote.
-#[derive(Clone, Copy)]
-struct Live {
-    run: Record,
-    count: usize,
-}
-
-// Whether state or work memory is too short.
+// Whether state or work memory is too short. The settings and the lengths stay parameters, since a `Live` is made of memories that fit.
 fn too_short(s: Settings, state: usize, work: usize) -> bool
     ensures { result ≡ too_short s state work }
 {
-    state < size(s) || work < room(s)
+    state < state_size(s.level) || work < work_size(s.level)
 }
 
-// Whether the run has made a step and is past its max time.
-fn timed_out(run: Record) -> bool
-    ensures { result ≡ (nat_le 1 run.steps && lt run.settings.max_time run.time) }
+// Whether a call is refused by its settings and by the memories that it is lent.
+#[tactic(auto, unfolding(crate::specs::Model::fault_at))]
+fn lent(s: Settings, state: usize, work: usize) -> Result<(), Refusal>
+    ensures { refusal_of result ≡ option (fault_at s) Some (if too_short s state work then Some 11 else None) }
 {
-    1 <= run.steps && late(run.settings, run.time)
-}
-
-// Whether the run has ended.
-#[tactic(auto, using(crate::proofs::Leaves::late_in), unfolding(crate::specs::PlainRun::ended))]
-fn has_ended(run: Record, state: &[f64]) -> bool
-    requires { cell_count run.settings ≤ length state.now }
-    ensures { result ≡ has_ended run.settings (machine_of run state.now) }
-{
-    mass_in(run.settings, run.time, state).is_some() || timed_out(run) || run.broken
-}
-
-// The run's outcome.
-#[tactic(auto, using(crate::proofs::Leaves::late_in), unfolding(crate::specs::PlainRun::outcome))]
-fn outcome_of(run: Record, state: &[f64]) -> Outcome
-    requires { cell_count run.settings ≤ length state.now }
-    ensures { meant_by result ≡ outcome_of run.settings (machine_of run state.now) }
-{
-    let s = run.settings;
-    if let Some(mass) = mass_in(s, run.time, state) {
-        return Outcome::Collapse(mass);
-    }
-    if run.broken {
-        return Outcome::Broken;
-    }
-    if timed_out(run) {
-        return Outcome::Timeout;
-    }
-    Outcome::Spent
-}
-
-// Whether a frame step comes, and fewer numbers of a frame memory are left than a frame has.
-fn is_full(s: Settings, framed: bool, count: usize, room: usize) -> bool
-    requires s_value { fault_at s ≡ None }
-    requires s_bound { count * frame_count s ≤ room }
-    ensures { result ≡ (framed && nat_lt (room - count * frame_count s) (frame_count s)) }
-{
-    let f = frame_size(s);
-    framed && room - count * f < f
-}
-
-// The record after an attempt whose next state has this time: the broken mark alone, or that time and one step more.
-fn record_after(run: Record, time: f64, broken: bool) -> Record
-    requires { run.steps + 1 < 2 ^ 32 }
-    ensures { result ≡ record_after run time broken }
-{
-    if broken {
-        return Record {
-            broken: true,
-            ..run
-        };
-    }
-    Record {
-        time,
-        steps: run.steps + 1,
-        ..run
-    }
-}
-
-// One attempt of a run that has not ended and has room.
-fn attempt_on(
-    live: Live,
-    clock: TimeStep,
-    state: &mut [f64],
-    work: &mut [f64],
-    frames: &mut [f64],
-) -> Live
-    requires { CanAttempt live clock state.old work.old frames.old }
-    ensures { Attempted live state.old work.old frames.old result state.new work.new frames.new }
-{
-    let run = live.run;
-    let s = run.settings;
-    let time = step(s, run.time, clock.delta, state, work);
-    let broken = has_nan(s, time, work);
-    store_next(s, broken, work, state);
-    let next = record_after(run, time, broken);
-    if clock.framed && !broken {
-        write_frame(s, time, state, work, frames, live.count * frame_size(s));
-        return Live {
-            run: next,
-            count: live.count + 1,
-        };
-    }
-    Live {
-        run: next,
-        count: live.count,
-    }
-}
-
-// A run whose attempts end here, with its outcome.
-fn ended(live: Live, state: &[f64]) -> Advanced
-    requires { cell_count live.run.settings ≤ length state.now }
-    ensures answer { reply_of result.answer ≡ ran (outcome_of live.run.settings (machine_of live.run state.now)) live.count }
-    ensures run { result.record ≡ live.run }
-{
-    Advanced {
-        record: live.run,
-        answer: Ok(Answer::Ran(outcome_of(live.run, state), live.count)),
-    }
-}
-
-// Makes at most so many attempts, and stops before a frame step with no room for its frame.
-fn attempts(
-    run: Record,
-    state: &mut [f64],
-    work: &mut [f64],
-    frames: &mut [f64],
-    budget: u32,
-) -> Advanced
-    requires { advance_refusal run state.old (length work.old) budget ≡ None }
-    ensures frames_after { after_advance result state.new frames.new ≡ left_by run.settings state.old frames.old (attempts_from run.settings (length frames.old) budget 0 (machine_of run state.old)) }
-    ensures work_unchanged { drop (if is_idle run state.old budget then 0 else work_count run.settings) work.new ≡ drop (if is_idle run state.old budget then 0 else work_count run.settings) work.old }
-{
-    let mut live = Live { run, count: 0 };
-    for made in 0..budget {
-        let current = live.run;
-        if has_ended(current, state) {
-            return ended(live, state);
-        }
-        let clock = clock_at(current.settings, current.time, state);
-        if is_full(current.settings, clock.framed, live.count, frames.len()) {
-            return Advanced {
-                record: current,
-                answer: Ok(Answer::Full(made, live.count)),
-            };
-        }
-        live = attempt_on(live, clock, state, work, frames);
-    }
-    ended(live, state)
-}
-
-// Whether an advance is refused.
-#[tactic(auto, unfolding(crate::specs::Calls::advance_refusal))]
-fn advance_verdict(run: Record, state: &[f64], work: usize, budget: u32) -> Result<(), Refusal>
-    ensures { refusal_of result ≡ advance_refusal run state.now work budget }
-{
-    fault_in(run.settings)?;
-    if too_short(run.settings, state.len(), work) {
+    validate(s)?;
+    if too_short(s, state, work) {
         return Err(Refusal::Memory);
-    }
-    if !has_ended(run, state) && run.steps as u64 + budget as u64 > 2147483647 {
-        return Err(Refusal::Steps);
     }
     Ok(())
 }
 
-// Goes on with a run, by at most so many attempts.
-#[tactic(auto, unfolding(crate::specs::Calls::advance_of, crate::specs::Calls::advance_uses))]
+impl Live<'_> {
+    // Whether the run has made a step and is past its max time.
+    fn timed_out(&self) -> bool
+        ensures { let r = self.now.run in result ≡ (nat_le 1 r.steps && lt r.settings.max_time r.time) }
+    {
+        1 <= self.run.steps && late(self.run.settings, self.run.time)
+    }
+
+    // Whether the run has ended.
+    #[tactic(auto, using(crate::proofs::Leaves::late_in), unfolding(crate::specs::PlainRun::ended))]
+    fn has_ended(&self) -> bool
+        ensures { result ≡ has_ended self.now.run.settings (machine_in self.now) }
+    {
+        self.mass().is_some() || self.timed_out() || self.run.broken
+    }
+
+    // The run's outcome.
+    #[tactic(auto, using(crate::proofs::Leaves::late_in), unfolding(crate::specs::PlainRun::outcome))]
+    fn outcome(&self) -> Outcome
+        ensures { meant_by result ≡ outcome_of self.now.run.settings (machine_in self.now) }
+    {
+        if let Some(mass) = self.mass() {
+            return Outcome::Collapse(mass);
+        }
+        if self.run.broken {
+            return Outcome::Broken;
+        }
+        if self.timed_out() {
+            return Outcome::Timeout;
+        }
+        Outcome::Spent
+    }
+
+    // Whether a frame step comes, and fewer numbers of frame memory are left than a frame has.
+    #[tactic(auto, unfolding(crate::specs::Model::frame_count))]
+    fn is_full(&self, framed: bool) -> bool
+        ensures { result ≡ (framed && lacks_room self.now) }
+    {
+        let f = frame_size(self.run.settings);
+        framed && self.frames.len() - self.count * f < f
+    }
+
+    // One attempt of a run that has not ended and has room.
+    #[tactic(auto, unfolding(crate::specs::Model::frame_count))]
+    fn attempt(&mut self, clock: TimeStep)
+        requires { CanAttempt self.old clock }
+        ensures { Attempted self.old self.new }
+    {
+        let s = self.run.settings;
+        let state = &mut *self.state;
+        let work = &mut *self.work;
+        let time = step(s, self.run.time, clock.delta, state, work);
+        if has_nan(s, time, work) {
+            self.run.broken = true;
+            return;
+        }
+        store_next(s, work, state);
+        self.run.time = time;
+        self.run.steps += 1;
+        if clock.framed {
+            let at = self.count * frame_size(s);
+            write_frame(s, time, state, work, self.frames, at);
+            self.count += 1;
+        }
+    }
+
+    // Makes at most so many attempts, and stops before a frame step with no room for its frame.
+    fn attempts(&mut self, budget: u32) -> Answer
+        requires { let a = self.old in (a.count ≡ 0) × (advance_refusal a.run a.state.now (length a.work.now) budget ≡ None) }
+        ensures { AdvanceLeaves self.old budget (Ok result) self.new }
+    {
+        for made in 0..budget {
+            if self.has_ended() {
+                return Answer::Ran(self.outcome(), self.count);
+            }
+            let clock = self.clock();
+            if self.is_full(clock.framed) {
+                return Answer::Full(made, self.count);
+            }
+            self.attempt(clock);
+        }
+        Answer::Ran(self.outcome(), self.count)
+    }
+
+    // Goes on with the run, by at most so many attempts.
+    fn advance(&mut self, budget: u32) -> Result<Answer, Refusal>
+        requires { self.old.count ≡ 0 }
+        ensures { AdvanceLeaves self.old budget result self.new }
+    {
+        if !self.has_ended() && self.run.steps as u64 + budget as u64 > 2147483647 {
+            return Err(Refusal::Steps);
+        }
+        Ok(self.attempts(budget))
+    }
+}
+
+// Goes on with a run, by at most so many attempts. The memories are lent one by one, here and below: a `Live` is made of them once the call is
+// not refused.
+#[tactic(auto, unfolding(crate::specs::Calls::advance_of, crate::specs::Calls::advance_uses, crate::specs::Calls::advance_refusal))]
 pub fn advance(
     run: Record,
     state: &mut [f64],
@@ -215,24 +168,32 @@ pub fn advance(
     ensures frames_after { after_advance result state.new frames.new ≡ advance_of run state.old work.old frames.old budget }
     ensures work_unchanged { drop (advance_uses run state.old (length work.old) budget) work.new ≡ drop (advance_uses run state.old (length work.old) budget) work.old }
 {
-    if let Err(refusal) = advance_verdict(run, state, work.len(), budget) {
+    if let Err(refusal) = lent(run.settings, state.len(), work.len()) {
         return Advanced {
             record: run,
             answer: Err(refusal),
         };
     }
-    attempts(run, state, work, frames, budget)
+    let mut live = Live {
+        run,
+        count: 0,
+        state,
+        work,
+        frames,
+    };
+    let answer = live.advance(budget);
+    Advanced {
+        record: live.run,
+        answer,
+    }
 }
 
 // Whether a begin is refused before the initial state is made.
-#[tactic(auto, unfolding(crate::specs::Calls::lent_refusal))]
+#[tactic(auto, unfolding(crate::specs::Calls::lent_refusal, crate::specs::Model::frame_count))]
 fn begin_verdict(s: Settings, state: usize, work: usize, frames: usize) -> Result<(), Refusal>
     ensures { refusal_of result ≡ lent_refusal s state work frames }
 {
-    fault_in(s)?;
-    if too_short(s, state, work) {
-        return Err(Refusal::Memory);
-    }
+    lent(s, state, work)?;
     if !s.skip && frames < frame_size(s) {
         return Err(Refusal::Frames);
     }
@@ -252,11 +213,10 @@ fn start_run(
     ensures work_unchanged { drop (work_count s) work.new ≡ drop (work_count s) work.old }
 {
     let time = start_state(s, work);
-    let refused = has_nan(s, time, work);
-    store_next(s, refused, work, state);
-    if refused {
+    if has_nan(s, time, work) {
         return Err(Refusal::InitialNan);
     }
+    store_next(s, work, state);
     let run = Record {
         settings: s,
         time,

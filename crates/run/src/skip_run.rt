@@ -49,7 +49,7 @@ fn told(advanced: Advanced) -> Result<Ended, NotRun>
     })
 }
 
-// The run of these settings at this amplitude.
+// The run of these settings at this amplitude, in the caller's memories, lent one by one as in simulate.rt.
 pub fn skip_run(
     s: Settings,
     amplitude: f64,

@@ -9,8 +9,10 @@ ghost use Rattle.run.specs.FrameWriting.{every_of, Sampling, vector_samples, fie
 ghost use Rattle.run.specs.FramePlaces.{place_of};
 ghost use Rattle.run.specs.InputsLaws.{Accepted};
 ghost use Rattle.run.specs.WriteLaws.{Wrote};
+ghost use Rattle.run.specs.Written.{Room, Written};
 
 use crate::settings::Settings;
+use crate::writer::Writer;
 use physics::state::total_energy;
 use vectors::diff::diff;
 use vectors::grid::length_at_discretization;
@@ -59,7 +61,8 @@ fn sample_count(dx_level: u32) -> usize
     (1usize << dx_level) + 1
 }
 
-// Writes the frame of a state from number `at` of frame memory on. The radial gradient is left in work memory.
+// Writes the frame of a state from number `at` of frame memory on. The radial gradient is left in work memory. Memories and places stay
+// parameters, here and below: a struct of them would be made for one call and taken apart in it.
 pub(crate) fn write_frame(
     s: Settings,
     time: f64,
@@ -78,7 +81,8 @@ pub(crate) fn write_frame(
     let from = 17 * n;
     let end = from + n;
     compute_radial_gradient(s.level, n, state, work, from);
-    sampled.write_output(time, &work[from..end], frames, at);
+    let mut w = Writer { out: frames, at };
+    sampled.write_output(time, &work[from..end], &mut w);
 }
 
 // The radial gradient of the field, into the n numbers of work memory from `from` on.
@@ -109,53 +113,53 @@ impl<'a> Sampled<'a> {
     }
 
     // Writes a frame whose radial gradient is at hand.
-    fn write_output(self, time: f64, radial_gradient: &[f64], frames: &mut [f64], at: usize)
-        requires { (length radial_gradient.now ≡ self.n) × (at + (2 + 9 * self.count) ≤ length frames.old) }
-        ensures { let s = self.entry in Wrote at (output_of s.n s.step s.count s.state.now time radial_gradient.now) frames.old frames.new }
+    fn write_output(self, time: f64, radial_gradient: &[f64], frames: &mut Writer<'_, f64>)
+        requires { (length radial_gradient.now ≡ self.n) × (Room (2 + 9 * self.count) frames.old) }
+        ensures { let s = self.entry in Written (2 + 9 * s.count) (output_of s.n s.step s.count s.state.now time radial_gradient.now) frames.old frames.new }
     {
-        frames[at] = time;
-        let constraints = self.write_fields(radial_gradient, frames, at + 1);
-        let energy = self.write_constraints(frames, constraints);
-        self.write_energy(frames, energy);
+        frames.push(time);
+        self.write_fields(radial_gradient, frames);
+        self.write_constraints(frames);
+        self.write_energy(frames);
     }
 
-    // Writes the fields: the scalar field, its radial gradient and its conjugate momentum. Answers where they end.
-    fn write_fields(self, radial_gradient: &[f64], frames: &mut [f64], at: usize) -> usize
-        requires { (length radial_gradient.now ≡ self.n) × (at + 3 * self.count ≤ length frames.old) }
-        ensures { let s = self.entry in (result ≡ at + 3 * s.count) × Wrote at (fields_of s.n s.step s.count s.state.now radial_gradient.now) frames.old frames.new }
+    // Writes the fields: the scalar field, its radial gradient and its conjugate momentum.
+    fn write_fields(self, radial_gradient: &[f64], frames: &mut Writer<'_, f64>)
+        requires { (length radial_gradient.now ≡ self.n) × (Room (3 * self.count) frames.old) }
+        ensures { let s = self.entry in Written (3 * s.count) (fields_of s.n s.step s.count s.state.now radial_gradient.now) frames.old frames.new }
     {
-        let gradient = self.write_vector(Vector::Field, frames, at);
-        let momentum = self.reduce_spatial_resolution(radial_gradient, frames, gradient);
-        self.write_vector(Vector::ConjMomentum, frames, momentum)
+        self.write_vector(Vector::Field, frames);
+        self.reduce_spatial_resolution(radial_gradient, frames);
+        self.write_vector(Vector::ConjMomentum, frames);
     }
 
-    // Writes the constraint variables. Answers where they end.
-    fn write_constraints(self, frames: &mut [f64], at: usize) -> usize
-        requires { at + 5 * self.count ≤ length frames.old }
-        ensures { let s = self.entry in (result ≡ at + 5 * s.count) × Wrote at (constraints_of s.n s.step s.count s.state.now) frames.old frames.new }
+    // Writes the constraint variables.
+    fn write_constraints(self, frames: &mut Writer<'_, f64>)
+        requires { Room (5 * self.count) frames.old }
+        ensures { let s = self.entry in Written (5 * s.count) (constraints_of s.n s.step s.count s.state.now) frames.old frames.new }
     {
-        let radial_factor = self.write_vector(Vector::Mass, frames, at);
-        let lapse = self.write_vector(Vector::RadialFactor, frames, radial_factor);
-        let char_speed = self.write_vector(Vector::Lapse, frames, lapse);
-        let energy_density = self.write_vector(Vector::CharSpeed, frames, char_speed);
-        self.write_vector(Vector::EnergyDensity, frames, energy_density)
+        self.write_vector(Vector::Mass, frames);
+        self.write_vector(Vector::RadialFactor, frames);
+        self.write_vector(Vector::Lapse, frames);
+        self.write_vector(Vector::CharSpeed, frames);
+        self.write_vector(Vector::EnergyDensity, frames);
     }
 
     // Writes the total energy and the alternate mass.
-    fn write_energy(self, frames: &mut [f64], at: usize)
-        requires { at + 1 + self.count ≤ length frames.old }
-        ensures { let s = self.entry in Wrote at (energy_of s.n s.step s.count s.state.now) frames.old frames.new }
+    fn write_energy(self, frames: &mut Writer<'_, f64>)
+        requires { Room (1 + self.count) frames.old }
+        ensures { let s = self.entry in Written (1 + s.count) (energy_of s.n s.step s.count s.state.now) frames.old frames.new }
     {
-        frames[at] = total_energy(self.vector(Vector::Mass));
-        self.write_vector(Vector::AlternateMass, frames, at + 1);
+        frames.push(total_energy(self.vector(Vector::Mass)));
+        self.write_vector(Vector::AlternateMass, frames);
     }
 
-    // Writes the samples of a vector of the state. Answers where they end.
-    fn write_vector(self, vector: Vector, frames: &mut [f64], at: usize) -> usize
-        requires { at + self.count ≤ length frames.old }
-        ensures { let s = self.entry in (result ≡ at + s.count) × Wrote at (vector_samples s.n s.step s.count s.state.now (place_of vector)) frames.old frames.new }
+    // Writes the samples of a vector of the state.
+    fn write_vector(self, vector: Vector, frames: &mut Writer<'_, f64>)
+        requires { Room self.count frames.old }
+        ensures { let s = self.entry in Written s.count (vector_samples s.n s.step s.count s.state.now (place_of vector)) frames.old frames.new }
     {
-        self.reduce_spatial_resolution(self.vector(vector), frames, at)
+        self.reduce_spatial_resolution(self.vector(vector), frames);
     }
 
     fn vector(self, vector: Vector) -> &'a [f64]
@@ -165,15 +169,15 @@ impl<'a> Sampled<'a> {
         &self.state[from..from + self.n]
     }
 
-    // Writes the samples of a vector. Answers where they end.
-    fn reduce_spatial_resolution(self, vector: &[f64], frames: &mut [f64], at: usize) -> usize
-        requires { (length vector.now ≡ self.n) × (at + self.count ≤ length frames.old) }
-        ensures { let s = self.entry in (result ≡ at + s.count) × Wrote at (every_of s.step s.count vector.now) frames.old frames.new }
+    // Writes the samples of a vector.
+    fn reduce_spatial_resolution(self, vector: &[f64], frames: &mut Writer<'_, f64>)
+        requires { (length vector.now ≡ self.n) × (Room self.count frames.old) }
+        ensures { let s = self.entry in Written s.count (every_of s.step s.count vector.now) frames.old frames.new }
     {
-        let end = at + self.count;
-        for (j, sample) in frames[at..end].iter_mut().enumerate() {
+        let end = frames.at + self.count;
+        for (j, sample) in frames.out[frames.at..end].iter_mut().enumerate() {
             *sample = vector[j * self.step];
         }
-        end
+        frames.at = end;
     }
 }

@@ -37,6 +37,7 @@ const EXACT: Lent = Lent {
     frames: 299,
 };
 
+// What a begin is lent: as much as it needs; less of one memory; less of each; all that there is.
 const LENGTHS: [Lent; 9] = [
     EXACT,
     Lent {

@@ -6,7 +6,7 @@ use run::settings::{Record, Settings};
 use std::{fmt, io};
 use vectors::bits::of_bits;
 
-// Which of the eight vectors, the entry, the bits of what is put there.
+// Which of the eight vectors, the entry, the bits of what is put there. The bytes are places, and no kinds.
 #[rattlefmt::skip]
 const STATES: [(u8, u8, u64); 20] = [
     (0, 3, 0x7FF0000000000000), (0, 0, 0x7FF8000000000000), (0, 32, 0x4000000000000000), (1, 5, 0x7FF8000000000000),
@@ -69,10 +69,12 @@ const RUN: Settings = Settings {
 // At level 5 a vector has 33 entries.
 pub fn states(rt: &impl Print, memories: &mut Memories) -> io::Result<()> {
     for (vector, i, b) in STATES {
-        let session = run(memories);
-        memories.put(33 * vector as usize + i as usize, of_bits(b));
+        let mut session = run(memories);
+        session
+            .memories
+            .put(33 * usize::from(vector) + usize::from(i), of_bits(b));
         print!(rt; "forged state {vector} {i} {b:016x} ")?;
-        line(rt, session, 2, memories)?;
+        line(rt, &mut session, 2)?;
     }
     Ok(())
 }
@@ -82,26 +84,25 @@ pub fn records(rt: &impl Print, memories: &mut Memories) -> io::Result<()> {
         let mut session = run(memories);
         session.record = with(session.record, forged);
         print!(rt; "forged record {forged} advance {budget} ")?;
-        line(rt, session, budget, memories)?;
+        line(rt, &mut session, budget)?;
     }
     Ok(())
 }
 
-fn run(memories: &mut Memories) -> Session {
+fn run<'a>(memories: &'a mut Memories) -> Session<'a> {
     memories.fill();
     let mut session = Session::begin(RUN, exact(RUN), memories);
-    session.advance(3, exact(RUN), memories);
+    session.advance(3, exact(RUN));
     session
 }
 
-fn line(rt: &impl Print, forged: Session, budget: u32, memories: &mut Memories) -> io::Result<()> {
-    let mut session = forged;
-    memories.fill_work();
-    session.advance(budget, exact(RUN), memories);
+fn line(rt: &impl Print, session: &mut Session, budget: u32) -> io::Result<()> {
+    session.memories.fill_work();
+    session.advance(budget, exact(RUN));
     println!(rt;
         "{} {}",
         Reply(session.answer, session.record),
-        session.left(memories)
+        session.left()
     )
 }
 

@@ -30,8 +30,15 @@ const LISTS: [List; 6] = [
     List::Long,
 ];
 
-// How many budgets a list of cuts has.
+// How many budgets a list of cuts has: a count, and no kind.
 const CUTS: u32 = 8;
+
+// A case by its number, and a list.
+#[derive(Clone, Copy)]
+struct Listed {
+    k: usize,
+    list: List,
+}
 
 pub fn all(rt: &impl Print, memories: &mut Memories) -> io::Result<()> {
     for k in 0..CASES {
@@ -42,16 +49,16 @@ pub fn all(rt: &impl Print, memories: &mut Memories) -> io::Result<()> {
 
 fn lists(rt: &impl Print, k: usize, memories: &mut Memories) -> io::Result<()> {
     for list in LISTS {
-        line(rt, k, list, memories)?;
+        line(rt, Listed { k, list }, memories)?;
     }
     Ok(())
 }
 
 // The calls; outcome, steps, time and mass; the digest of the state; the frames and their digest.
-fn line(rt: &impl Print, k: usize, list: List, memories: &mut Memories) -> io::Result<()> {
-    let session = carry_out(k, list, memories);
+fn line(rt: &impl Print, listed: Listed, memories: &mut Memories) -> io::Result<()> {
+    let session = listed.carry_out(memories);
     let record = session.record;
-    print!(rt; "case {k} list {} ", list as u32)?;
+    print!(rt; "case {} list {} ", listed.k, listed.list as u32)?;
     print!(rt;
         "calls {} full {} refused {} ",
         session.calls, session.full, session.refused
@@ -65,66 +72,65 @@ fn line(rt: &impl Print, k: usize, list: List, memories: &mut Memories) -> io::R
     )?;
     println!(rt;
         "state {} frames {} {}",
-        state_digest(session, memories),
+        state_digest(&session),
         session.frames,
         session.digest
     )
 }
 
 // The digest of the time and of the state's numbers.
-fn state_digest(session: Session, memories: &Memories) -> u64 {
+fn state_digest(session: &Session) -> u64 {
     let record = session.record;
     let size = state_size(record.settings.level);
-    memories.state[..size]
+    session.memories.state[..size]
         .iter()
         .fold(with(1, record.time), |d, x| with(d, *x))
 }
 
-fn carry_out(k: usize, list: List, memories: &mut Memories) -> Session {
-    let case = case_of(k);
-    let lent = lent(case.settings, list);
-    let mut session = Session::begin(case.settings, lent, memories);
-    match list {
-        List::Whole | List::Short => session.spend(case.attempts, lent, memories),
-        List::Ones => ones(&mut session, case.attempts, lent, memories),
-        List::Cuts | List::Refusals | List::Long => cuts(&mut session, k, list, memories),
-    }
-    session
-}
-
-fn ones(session: &mut Session, attempts: u32, lent: Lent, memories: &mut Memories) {
-    for _ in 0..attempts {
-        session.spend(1, lent, memories);
-    }
-}
-
-// Random budgets, some of them 0, and at last what is left.
-fn cuts(session: &mut Session, k: usize, list: List, memories: &mut Memories) {
-    let Case { settings, attempts } = case_of(k);
-    let lent = lent(settings, list);
-    let mut left = attempts;
-    let mut s = mixed(mixed(31, k as u64), list as u64);
-    for turn in 1..=CUTS {
-        if matches!(list, List::Refusals) {
-            refusals(session, lent, memories);
+impl Listed {
+    fn carry_out<'a>(self, memories: &'a mut Memories) -> Session<'a> {
+        let Case { settings, attempts } = case_of(self.k);
+        let lent = lent(settings, self.list);
+        let mut session = Session::begin(settings, lent, memories);
+        match self.list {
+            List::Whole | List::Short => session.spend(attempts, lent),
+            List::Ones => ones(&mut session, attempts, lent),
+            List::Cuts | List::Refusals | List::Long => self.cuts(&mut session, attempts, lent),
         }
-        let drawn = draw(s) % (attempts / 3 + 2);
-        let budget = if turn == CUTS { left } else { left.min(drawn) };
-        session.spend(budget, lent, memories);
-        left = left.wrapping_sub(budget);
-        s = after(s);
+        session
+    }
+
+    // Random budgets, some of them 0, and at last what is left.
+    fn cuts(self, session: &mut Session, attempts: u32, lent: Lent) {
+        let mut left = attempts;
+        let mut s = mixed(mixed(31, self.k as u64), self.list as u64);
+        for turn in 1..=CUTS {
+            if matches!(self.list, List::Refusals) {
+                refusals(session, lent);
+            }
+            let drawn = draw(s) % (attempts / 3 + 2);
+            let budget = if turn == CUTS { left } else { left.min(drawn) };
+            session.spend(budget, lent);
+            left = left.wrapping_sub(budget);
+            s = after(s);
+        }
+    }
+}
+
+fn ones(session: &mut Session, attempts: u32, lent: Lent) {
+    for _ in 0..attempts {
+        session.spend(1, lent);
     }
 }
 
 // Calls that are refused unless the run has ended: state or work memory one short, a budget too large.
-fn refusals(session: &mut Session, lent: Lent, memories: &mut Memories) {
+fn refusals(session: &mut Session, lent: Lent) {
     session.advance(
         1,
         Lent {
             state: lent.state.wrapping_sub(1),
             ..lent
         },
-        memories,
     );
     session.advance(
         1,
@@ -132,9 +138,8 @@ fn refusals(session: &mut Session, lent: Lent, memories: &mut Memories) {
             work: lent.work.wrapping_sub(1),
             ..lent
         },
-        memories,
     );
-    session.advance(2147483648, lent, memories);
+    session.advance(2147483648, lent);
 }
 
 // Exact, or with some numbers more. A skipped run needs no frame memory.

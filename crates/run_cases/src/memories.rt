@@ -16,6 +16,7 @@ pub const WORK: usize = 10288;
 
 pub const FRAMES: usize = 8192;
 
+// rt goes beside them: a struct of both would have the type of the handle as a parameter, and be no plainer.
 #[derive(Drop)]
 pub struct Memories {
     pub state: [f64; STATE],
@@ -37,6 +38,7 @@ pub const ALL: Lent = Lent {
     frames: FRAMES,
 };
 
+// `Left` writes another word, and its fields in another sequence: one function for both would be no shorter.
 impl fmt::Display for Lent {
     fn fmt<W: fmt::Write>(&self, f: &mut fmt::Formatter<W>) -> fmt::Result {
         write!(f, "lent {} {} {}", self.state, self.work, self.frames)
@@ -109,13 +111,20 @@ impl Memories {
         }
     }
 
+    // Settings and lent stay two arguments: a struct of both would be made at each of its three uses only to be taken apart here.
     pub fn begin(&mut self, settings: Settings, lent: Lent) -> Result<Begun, Refusal> {
         let Memories {
             state,
             work,
             frames,
         } = self;
-        begin(settings, lent, state, work, frames)
+        let (state, work, frames) = (&mut state[..], &mut work[..], &mut frames[..]);
+        simulate::begin(
+            settings,
+            &mut state[..lent.state.min(STATE)],
+            &mut work[..lent.work.min(WORK)],
+            &mut frames[..lent.frames.min(FRAMES)],
+        )
     }
 
     pub fn advance(&mut self, record: Record, lent: Lent, budget: u32) -> Advanced {
@@ -124,7 +133,14 @@ impl Memories {
             work,
             frames,
         } = self;
-        advance(record, lent, budget, state, work, frames)
+        let (state, work, frames) = (&mut state[..], &mut work[..], &mut frames[..]);
+        simulate::advance(
+            record,
+            &mut state[..lent.state.min(STATE)],
+            &mut work[..lent.work.min(WORK)],
+            &mut frames[..lent.frames.min(FRAMES)],
+            budget,
+        )
     }
 
     // The call used so many numbers of work memory.
@@ -135,36 +151,4 @@ impl Memories {
             work: digest(&self.work[used.min(WORK)..]),
         }
     }
-}
-
-fn begin(
-    settings: Settings,
-    lent: Lent,
-    state: &mut [f64; STATE],
-    work: &mut [f64; WORK],
-    frames: &mut [f64; FRAMES],
-) -> Result<Begun, Refusal> {
-    simulate::begin(
-        settings,
-        &mut state[..lent.state.min(STATE)],
-        &mut work[..lent.work.min(WORK)],
-        &mut frames[..lent.frames.min(FRAMES)],
-    )
-}
-
-fn advance(
-    record: Record,
-    lent: Lent,
-    budget: u32,
-    state: &mut [f64; STATE],
-    work: &mut [f64; WORK],
-    frames: &mut [f64; FRAMES],
-) -> Advanced {
-    simulate::advance(
-        record,
-        &mut state[..lent.state.min(STATE)],
-        &mut work[..lent.work.min(WORK)],
-        &mut frames[..lent.frames.min(FRAMES)],
-        budget,
-    )
 }

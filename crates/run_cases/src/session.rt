@@ -9,10 +9,11 @@ use run::simulate::Answer;
 // No budget takes so many calls.
 const MOST: u32 = 1000;
 
-// The record and the answer of the last call; how many advances there were, and of these how many were full or refused; how
-// many frames were joined and their digest.
-#[derive(Clone, Copy)]
-pub struct Session {
+// The memories; the record and the answer of the last call; how many advances there were, and of these how many were full or
+// refused; how many frames were joined and their digest.
+#[derive(Drop)]
+pub struct Session<'a> {
+    pub memories: &'a mut Memories,
     pub record: Record,
     pub answer: Result<Answer, Refusal>,
     pub calls: u32,
@@ -22,9 +23,11 @@ pub struct Session {
     pub digest: u64,
 }
 
-impl Session {
-    pub fn begin(settings: Settings, lent: Lent, memories: &mut Memories) -> Self {
+impl<'a> Session<'a> {
+    pub fn begin(settings: Settings, lent: Lent, memories: &'a mut Memories) -> Self {
+        let begun = memories.begin(settings, lent);
         let mut session = Session {
+            memories,
             record: Record {
                 settings,
                 time: 0.0,
@@ -38,18 +41,18 @@ impl Session {
             frames: 0,
             digest: 1,
         };
-        match memories.begin(settings, lent) {
+        match begun {
             Err(refusal) => session.answer = Err(refusal),
             Ok(begun) => {
                 session.record = begun.record;
-                session.join(begun.count, memories);
+                session.join(begun.count);
             }
         }
         session
     }
 
-    pub fn advance(&mut self, budget: u32, lent: Lent, memories: &mut Memories) {
-        let advanced = memories.advance(self.record, lent, budget);
+    pub fn advance(&mut self, budget: u32, lent: Lent) {
+        let advanced = self.memories.advance(self.record, lent, budget);
         self.record = advanced.record;
         self.answer = advanced.answer;
         self.calls = self.calls.wrapping_add(1);
@@ -57,17 +60,17 @@ impl Session {
             Err(_) => self.refused = self.refused.wrapping_add(1),
             Ok(Answer::Full(_, count)) => {
                 self.full = self.full.wrapping_add(1);
-                self.join(count, memories);
+                self.join(count);
             }
-            Ok(Answer::Ran(_, count)) => self.join(count, memories),
+            Ok(Answer::Ran(_, count)) => self.join(count),
         }
     }
 
     // An advance, and after full advances with the rest of the budget.
-    pub fn spend(&mut self, budget: u32, lent: Lent, memories: &mut Memories) {
+    pub fn spend(&mut self, budget: u32, lent: Lent) {
         let mut rest = budget;
         for _ in 0..MOST {
-            self.advance(rest, lent, memories);
+            self.advance(rest, lent);
             let Ok(Answer::Full(made, _)) = self.answer else {
                 return;
             };
@@ -76,20 +79,20 @@ impl Session {
     }
 
     // What the last advance left. It used work memory unless it was refused.
-    pub fn left(&self, memories: &Memories) -> Left {
+    pub fn left(&self) -> Left {
         match self.answer {
-            Err(_) => memories.left(0),
-            Ok(_) => memories.left(work_size(self.record.settings.level)),
+            Err(_) => self.memories.left(0),
+            Ok(_) => self.memories.left(work_size(self.record.settings.level)),
         }
     }
 
     // Joins the frames that a call wrote.
-    fn join(&mut self, count: usize, memories: &Memories) {
+    fn join(&mut self, count: usize) {
         let end = count
             .wrapping_mul(frame_size(self.record.settings))
             .min(FRAMES);
         self.frames = self.frames.wrapping_add(count);
-        self.digest = memories.frames[..end]
+        self.digest = self.memories.frames[..end]
             .iter()
             .fold(self.digest, |d, x| with(d, *x));
     }

@@ -15,7 +15,7 @@ pub fn all(rt: &impl Print, memories: &mut Memories) -> io::Result<()> {
     for k in ENDING {
         let settings = case_of(k).settings;
         let mut session = Session::begin(settings, exact(settings), memories);
-        session.spend(2147483647, exact(settings), memories);
+        session.spend(2147483647, exact(settings));
         let record = session.record;
         print!(rt;
             "case {k} whole {} {:016x} ",

@@ -2,113 +2,140 @@
 // number, for 1 to 4 the position, and what the number means. A read or a write that fails is told on standard error too.
 #![tactic(auto)]
 
-ghost use Rattle.std.specs.Prelude.{◌≤◌, ◌≡◌, length, take};
-ghost use Rattle.program_io.specs.Input.{lent_input};
-ghost use Rattle.program_io.specs.Output.{Sent};
-ghost use Rattle.spell.specs.Reply.{spelled, reply_of};
-ghost use Rattle.spell.specs.Answers.{Answers};
+ghost use Rattle.std.specs.Prelude.{◌≤◌, ◌≡◌, length};
+ghost use Rattle.spell.specs.declared.Refusal.TheVariants.{Unspelled};
+ghost use Rattle.spell.specs.declared.NotSpelled.TheVariants.{Refused, Failed};
+ghost use Rattle.spell.specs.Reply.{reply_of};
+ghost use Rattle.spell.specs.Answers.{number_of, Answers};
+ghost use Rattle.spell.specs.Input.{Replies};
 
 use order_forms::spelling::{SpellError, spell};
-use program_io::{Input, Noted, Written, is_all, read_input, tell_failure, write};
-use std::io;
-use std::io::Write;
+use program_io::{Failure, read_input, write};
+use run::order::{Fault, Misread};
+use std::io::{Read, Write};
+use std::{fmt, io};
 
-// A refusal's number; its number and the position; or what was written of the spelling.
+// Why an input has no spelling.
+#[derive(Clone, Copy, Debug)]
+enum Refusal {
+    // The input is above 4,096 bytes: 8.
+    TooLong,
+    // The order's fault: 1 to 4. 17 does not come (`reply_number`).
+    Unspelled(SpellError),
+}
+
+impl From<Refusal> for u8 {
+    ghost from_gives = { λ refusal number. number ≡ number_of refusal };
+
+    fn from(refusal: Refusal) -> u8 {
+        match refusal {
+            Refusal::TooLong => 8,
+            Refusal::Unspelled(SpellError::Faulty(misread)) => u8::from(misread.fault),
+            Refusal::Unspelled(SpellError::NoRoom) => 17,
+        }
+    }
+}
+
+// The number, the position where there is one, and what the number means.
+impl fmt::Display for Refusal {
+    fn fmt<W: fmt::Write>(&self, f: &mut fmt::Formatter<W>) -> fmt::Result {
+        let number = u8::from(*self);
+        match *self {
+            Refusal::TooLong => write!(f, "refused {number}: above 4,096 bytes"),
+            Refusal::Unspelled(SpellError::Faulty(Misread { fault, position })) => {
+                let meaning = Meaning(fault);
+                write!(f, "refused {number} {position}: {meaning}")
+            }
+            Refusal::Unspelled(SpellError::NoRoom) => {
+                write!(f, "refused {number}: memory is shorter than the order")
+            }
+        }
+    }
+}
+
+// A fault in words.
 #[derive(Clone, Copy)]
-enum Answer {
-    Refused(u8),
-    RefusedAt(u8, usize),
-    Sent(Written),
+struct Meaning(Fault);
+
+impl fmt::Display for Meaning {
+    fn fmt<W: fmt::Write>(&self, f: &mut fmt::Formatter<W>) -> fmt::Result {
+        f.write_str(match self.0 {
+            Fault::Cut => "an operand runs past the end, or no 09 came",
+            Fault::Unknown => "a byte outside 01 to 09, or a switch above 1",
+            Fault::Misplaced => {
+                "a setting repeated or after 07, a second 07, an 08 before 07, or a byte after 09"
+            }
+            Fault::Missing => "07 with a setting missing, or 09 before 07",
+        })
+    }
+}
+
+// Why the program wrote no spelling, or a part of it.
+#[derive(Clone, Copy, Debug)]
+enum NotSpelled {
+    Refused(Refusal),
+    Failed(Failure),
+}
+
+impl From<SpellError> for NotSpelled {
+    ghost from_gives = { λ error told. told ≡ Refused (Unspelled error) };
+
+    fn from(error: SpellError) -> NotSpelled {
+        NotSpelled::Refused(Refusal::Unspelled(error))
+    }
+}
+
+impl From<Failure> for NotSpelled {
+    ghost from_gives = { λ failure told. told ≡ Failed failure };
+
+    fn from(failure: Failure) -> NotSpelled {
+        NotSpelled::Failed(failure)
+    }
+}
+
+impl fmt::Display for NotSpelled {
+    fn fmt<W: fmt::Write>(&self, f: &mut fmt::Formatter<W>) -> fmt::Result {
+        match self {
+            NotSpelled::Refused(refusal) => write!(f, "{refusal}"),
+            NotSpelled::Failed(failure) => write!(f, "{failure}"),
+        }
+    }
+}
+
+fn main(rt: HostRuntime) -> io::Result<()> {
+    match print_reply(&mut rt.stdin(), &mut rt.stdout()) {
+        Ok(()) => Ok(()),
+        Err(error) => eprintln!(rt; "spell: {error}"),
+    }
 }
 
 // Reads at most one byte more than an order may have.
-fn main(rt: HostRuntime) -> io::Result<()> {
-    let mut stdin = Noted::new(rt.stdin());
-    let mut input = [0u8; 4097];
-    let read = read_input(&mut stdin, &mut input);
-    match read {
-        Input::Failed => tell_failure(&rt, "spell: standard input", stdin.error),
-        Input::Ended(count, _) => print_reply(&rt, &input, count),
-        Input::Full(count) => print_reply(&rt, &input, count),
-    }
+fn print_reply<R: Read, W: Write>(input: &mut R, output: &mut W) -> Result<(), NotSpelled>
+    ensures { Replies (R.remaining input.old) (W.contents output.old) (W.contents output.new) result }
+{
+    let mut buffer = [0u8; 4097];
+    let count = read_input(input, &mut buffer)?;
+    reply(output, &buffer[..count])
 }
 
-// Standard output gets the spelling; standard error says why nothing was written, or where a write took nothing.
-fn print_reply(rt: &HostRuntime, buffer: &[u8], count: usize) -> io::Result<()>
-    requires buffer_len { length buffer.now ≡ lent_input }
-    requires count_in_bounds { count ≤ length buffer.now }
+// Replies to an input: 8 above 4,096 bytes, before all else.
+#[tactic(auto, using(crate::specs::ReplyLaws::long_refused))]
+fn reply<W: Write>(output: &mut W, input: &[u8]) -> Result<(), NotSpelled>
+    ensures { Answers (reply_of input.now) (W.contents output.old) (W.contents output.new) result }
 {
-    let mut stdout = Noted::new(rt.stdout());
-    let answer = reply(&mut stdout, buffer, count);
-    report(rt, answer, stdout.error)
-}
-
-// Replies to the first count bytes: 8 above 4,096 of them, before all else.
-#[tactic(auto, using(crate::proofs::Replies::answers_long))]
-fn reply(output: &mut impl Write, buffer: &[u8], count: usize) -> Answer
-    requires buffer_len { length buffer.now ≡ lent_input }
-    requires count_in_bounds { count ≤ length buffer.now }
-    ensures { Answers (reply_of (take count buffer.now)) result }
-{
-    if count > 4096 {
-        return Answer::Refused(8);
+    if input.len() > 4096 {
+        return Err(NotSpelled::Refused(Refusal::TooLong));
     }
-    write_spelling(output, &buffer[0..count])
+    write_spelling(output, input)
 }
 
 // Lends as many bytes as an order may have.
-fn write_spelling(output: &mut impl Write, order: &[u8]) -> Answer
+fn write_spelling<W: Write>(output: &mut W, order: &[u8]) -> Result<(), NotSpelled>
     requires { length order.now ≤ 4096 }
-    ensures { Answers (reply_of order.now) result }
+    ensures { Answers (reply_of order.now) (W.contents output.old) (W.contents output.new) result }
 {
     let mut out = [0u8; 4096];
-    match spell(order, &mut out) {
-        Ok(end) => Answer::Sent(send(output, order, &out[0..end])),
-        Err(SpellError::Faulty(misread)) => {
-            Answer::RefusedAt(u8::from(misread.fault), misread.position)
-        }
-        Err(SpellError::NoRoom) => Answer::Refused(17),
-    }
-}
-
-// Writes bytes that are the reply to the order.
-fn send(output: &mut impl Write, order: &[u8], bytes: &[u8]) -> Written
-    requires { reply_of order.now ≡ spelled bytes.now }
-    ensures { Sent (length bytes.now) result }
-{
-    write(output, bytes)
-}
-
-// Standard error says why nothing was written, or where a write took nothing.
-fn report(rt: &impl Eprint, answer: Answer, error: io::Error) -> io::Result<()> {
-    match answer {
-        Answer::Refused(number) => {
-            let meaning = meaning_of(number);
-            eprintln!(rt; "spell: refused {number}: {meaning}")
-        }
-        Answer::RefusedAt(number, position) => {
-            let meaning = meaning_of(number);
-            eprintln!(rt; "spell: refused {number} {position}: {meaning}")
-        }
-        Answer::Sent(written) => report_cut(rt, written, error),
-    }
-}
-
-fn report_cut(rt: &impl Eprint, written: Written, error: io::Error) -> io::Result<()> {
-    if is_all(written) {
-        return Ok(());
-    }
-    tell_failure(rt, "spell: standard output", error)
-}
-
-// What a number means. 17 does not come (`reply_number`).
-fn meaning_of(number: u8) -> &'static str {
-    match number {
-        1 => "an operand runs past the end, or no 09 came",
-        2 => "a byte outside 01 to 09, or a switch above 1",
-        3 => "a setting repeated or after 07, a second 07, an 08 before 07, or a byte after 09",
-        4 => "07 with a setting missing, or 09 before 07",
-        8 => "above 4,096 bytes",
-        _ => "memory is shorter than the order",
-    }
+    let end = spell(order, &mut out)?;
+    write(output, &out[0..end])?;
+    Ok(())
 }

@@ -57,7 +57,7 @@ fn amplitude_at(unit: f64, units: u64) -> f64
     std::num::nearest_u64_to_f64(units) * unit
 }
 
-// The run at so many units.
+// The run at so many units. State and work memory stay parameters beside `Runs`: in it each contract would say more, that it holds the same memories.
 fn run_at(runs: Runs, units: u64, state: &mut [f64], work: &mut [f64]) -> Result<Ended, NotRun>
     ensures { SkipRan runs.settings (amplitude_at runs.unit units) runs.budget state.old work.old (ran_of result) state.new work.new }
 {
@@ -125,7 +125,7 @@ fn bracketed(
     Ok(halve(runs, low, high, halvings, 0, state, work))
 }
 
-// The bracket between two ends, in units of `unit`.
+// The bracket between two ends, in units of `unit`. The memories are lent one by one, as capi has them.
 pub fn search_in(
     unit: f64,
     s: Settings,

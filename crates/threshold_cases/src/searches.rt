@@ -18,17 +18,56 @@ pub enum Call {
     Alone,
 }
 
+// The settings and the unit of the ends; the ends, halvings and budget; how much is lent of each memory; the call.
+#[derive(Clone, Copy)]
+struct Asked {
+    unit: f64,
+    settings: Settings,
+    low: u64,
+    high: u64,
+    halvings: u32,
+    budget: u32,
+    state: usize,
+    work: usize,
+    call: Call,
+}
+
+impl From<Row> for Asked {
+    fn from(row: Row) -> Asked {
+        let (unit, settings, (low, high, halvings, budget), (state, work), call) = row;
+        let (amplitude, level, max_time, interval, dx_level, skip) = settings;
+        Asked {
+            unit,
+            settings: Settings {
+                amplitude,
+                level,
+                max_time,
+                interval,
+                dx_level,
+                skip,
+            },
+            low,
+            high,
+            halvings,
+            budget,
+            state,
+            work,
+            call,
+        }
+    }
+}
+
 pub fn written(rt: &impl Print, memories: &mut Memories) -> io::Result<()> {
     for (k, row) in WRITTEN.iter().enumerate() {
-        carry_out(rt, k, *row, memories)?;
+        carry_out(rt, k, Asked::from(*row), memories)?;
     }
     Ok(())
 }
 
 pub fn drawn(rt: &impl Print, memories: &mut Memories) -> io::Result<()> {
     for (k, row) in DRAWN.iter().enumerate() {
-        let (unit, (amplitude, level, max_time, interval, dx_level, skip), bracket) = *row;
-        let given = (
+        let (unit, (amplitude, level, max_time, interval, dx_level, skip), ends) = *row;
+        let settings = (
             of_bits(amplitude),
             level,
             of_bits(max_time),
@@ -36,19 +75,21 @@ pub fn drawn(rt: &impl Print, memories: &mut Memories) -> io::Result<()> {
             dx_level,
             skip,
         );
-        let row = (of_bits(unit), given, bracket, (STATE, WORK), Call::In);
-        carry_out(rt, WRITTEN.len() + k, row, memories)?;
+        let row = (of_bits(unit), settings, ends, (STATE, WORK), Call::In);
+        carry_out(rt, WRITTEN.len() + k, Asked::from(row), memories)?;
     }
     Ok(())
 }
 
 // The case's number, a digest of what is asked, the answer, and how many numbers changed that must not.
-fn carry_out(rt: &impl Print, k: usize, row: Row, memories: &mut Memories) -> io::Result<()> {
-    let (_, (_, level, ..), ..) = row;
+fn carry_out(rt: &impl Print, k: usize, asked: Asked, memories: &mut Memories) -> io::Result<()> {
     memories.fill();
-    let answer = memories.search(row);
-    print!(rt; "case {k} asked {} {}", digest(row), Shown(answer))?;
-    println!(rt; " beyond {}", beyond(answer, level, memories))
+    let answer = memories.search(asked);
+    print!(rt; "case {k} asked {} {}", digest(asked), Shown(answer))?;
+    println!(rt;
+        " beyond {}",
+        beyond(answer, asked.settings.level, memories)
+    )
 }
 
 // Nothing may change where the search is refused before its first run begins.
@@ -61,49 +102,37 @@ fn beyond(answer: Result<Bracket, Refusal>, level: u32, memories: &Memories) -> 
     }
 }
 
-// Of all that is asked, floats by their bits.
+// Of all that is asked, floats by their bits; of each word the high half first.
 #[rattlefmt::skip]
-fn digest(row: Row) -> u64 {
-    let (unit, given, (low, high, halvings, budget), (state, work), call) = row;
-    let (amplitude, level, max_time, interval, dx_level, skip) = given;
+fn digest(asked: Asked) -> u64 {
+    let s = asked.settings;
     let words = [
-        bits_of(unit), bits_of(amplitude), level as u64, bits_of(max_time), bits_of(interval), dx_level as u64, skip as u64,
-        low, high, halvings as u64, budget as u64, state as u64, work as u64, call as u64,
+        bits_of(asked.unit), bits_of(s.amplitude), s.level as u64, bits_of(s.max_time), bits_of(s.interval), s.dx_level as u64,
+        s.skip as u64, asked.low, asked.high, asked.halvings as u64, asked.budget as u64, asked.state as u64, asked.work as u64,
+        asked.call as u64,
     ];
-    words.iter().fold(1, |d, word| with_word(d, *word))
-}
-
-// The high half first.
-fn with_word(d: u64, word: u64) -> u64 {
-    mixed(mixed(d, word / 4294967296), word % 4294967296)
+    words.iter().fold(1, |d, word| mixed(mixed(d, word / 4294967296), word % 4294967296))
 }
 
 impl Memories {
-    fn search(&mut self, row: Row) -> Result<Bracket, Refusal> {
+    fn search(&mut self, asked: Asked) -> Result<Bracket, Refusal> {
         let Memories { state, work } = self;
-        on_parts(row, state, work)
-    }
-}
-
-fn on_parts(
-    row: Row,
-    state: &mut [f64; STATE],
-    work: &mut [f64; WORK],
-) -> Result<Bracket, Refusal> {
-    let (unit, given, (low, high, halvings, budget), (of_state, of_work), call) = row;
-    let (amplitude, level, max_time, interval, dx_level, skip) = given;
-    let settings = Settings {
-        amplitude,
-        level,
-        max_time,
-        interval,
-        dx_level,
-        skip,
-    };
-    let state = &mut state[..of_state.min(STATE)];
-    let work = &mut work[..of_work.min(WORK)];
-    match call {
-        Call::In => search_in(unit, settings, low, high, halvings, budget, state, work),
-        Call::Alone => search(settings, low, high, halvings, budget, state, work),
+        let (state, work) = (&mut state[..], &mut work[..]);
+        let state = &mut state[..asked.state.min(STATE)];
+        let work = &mut work[..asked.work.min(WORK)];
+        let Asked {
+            unit,
+            settings,
+            low,
+            high,
+            halvings,
+            budget,
+            call,
+            ..
+        } = asked;
+        match call {
+            Call::In => search_in(unit, settings, low, high, halvings, budget, state, work),
+            Call::Alone => search(settings, low, high, halvings, budget, state, work),
+        }
     }
 }

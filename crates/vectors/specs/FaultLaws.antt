@@ -46,10 +46,19 @@ pub record BothFit (level a b : ℕ) : Type 0 where
   pub one : a ≡ points_of level
   pub other : b ≡ points_of level
 
--- each memory that an accepted call was lent has a number for each point
-pub lent_lem : (level : ℕ) (lengths : List ℕ) → 0 ≡ fault_of level (all_fit level lengths)
-    → (33 ≤ points_of level) × ((k : ℕ) → k < length lengths → slice_index_or lengths k 0 ≡ points_of level)
+-- a level of the grid, and memories with a number for each point
+pub record Lent (level : ℕ) (lengths : List ℕ) : Type 0 where
+  pub ranged : Level level
+  pub many : 33 ≤ points_of level
+  pub each : (k : ℕ) → k < length lengths → slice_index_or lengths k 0 ≡ points_of level
+
+-- what an accepted call was lent
+pub lent_lem : (level : ℕ) (lengths : List ℕ) → 0 ≡ fault_of level (all_fit level lengths) → Lent level lengths
 unfolding all_fit
 lent_lem level lengths e =
     let call = accepted level _ e in
-    (points_least call.ranged, λ k h. eqb-true _ _ (AllPass-from_list_all _ lengths call.fitting k 0 h))
+    record {
+      ranged = call.ranged;
+      many = points_least call.ranged;
+      each = λ k h. eqb-true _ _ (AllPass-from_list_all _ lengths call.fitting k 0 h);
+    }

@@ -310,6 +310,20 @@ module _ {A : Type 0} where
   pub grown_all : {i : ℕ} {g : List A → ℕ → A} {xs₀ xs : List A} (n : ℕ) (d : A) → Grown 0 0 i g xs₀ xs → i ≡ n → length xs₀ ≡ n → xs ≡ tab n (g xs₀)
   grown_all {i} {g} {xs₀} n d f e h = filled_all d (rw e at (f.grow xs₀ (filled_none 0 (g xs₀) xs₀))) h
 
+  fill_split : (m k : ℕ) (g : ℕ → A) (xs : List A) → fill 0 (m + k) g xs ≡ fill m k (λ j. g (m + j)) (fill 0 m g xs)
+  unfolding fill
+  fill_split m zero g xs = rw (add-zero m)
+  fill_split m (suc k) g xs = rw (add-suc m k) (cc (fill_split m k g xs, zero-add (m + k)))
+
+  -- a part from i₀ to e that was lent, each number of which came back as g of its place
+  pub grown_part : {g : ℕ → A} {zs : List A} (i₀ k e : ℕ) (d : A) (xs : List A) → zs ≡ tab k (λ j. g (i₀ + j)) → e ≡ i₀ + k → e ≤ length xs
+      → Grown 0 i₀ e (λ E. g) xs (put_mid i₀ (e - i₀) xs zs)
+  grown_part {g} {zs} i₀ k e d xs p q h =
+      let h' = λ (j : ℕ). g (i₀ + j) in
+      let l = length_tab k h' in
+      let placed = back i₀ e (tab k h') zs xs p (omega (arith, l)) ∙ sym (fill_put i₀ k h' xs d (omega arith)) in
+      record { grow = λ E F. record { is = placed ∙ ap (fill i₀ k h') F.is ∙ sym (fill_split i₀ k g E) ∙ ap (λ (n : ℕ). fill 0 n g E) (sym q) } }
+
   -- the laws of `part` and `put` where the lengths have other names
   pub part_of_put : (at n : ℕ) (ys xs : List A) (d : A) → length ys ≡ n → at + n ≤ length xs → part at n (put at ys xs) ≡ ys
   part_of_put at n ys xs d e h = rw (sym e) (part-put at ys xs d (omega arith))

@@ -104,22 +104,22 @@ mul_nan (inf s) = refl
 mul_nan (fin s m e) = refl
 
 module _ (ws : List ℤ) (xs : List Float) (k : ℕ) where
-  sum4_past : length xs < k + 4 → nan ≡ sum4 ws xs k
+  pub sum4_past : length xs < k + 4 → nan ≡ sum4 ws xs k
   sum4_past h = sym (simp (get_or-eq_default xs nan {n = k + 3} (omega arith), mul_nan, add_nan))
 
-  sum5_past : length xs < k + 5 → nan ≡ sum5 ws xs k
+  pub sum5_past : length xs < k + 5 → nan ≡ sum5 ws xs k
   sum5_past h = sym (simp (get_or-eq_default xs nan {n = k + 4} (omega arith), mul_nan, add_nan))
 
-  sum5hollow_past : length xs < k + 5 → nan ≡ sum5hollow ws xs k
+  pub sum5hollow_past : length xs < k + 5 → nan ≡ sum5hollow ws xs k
   sum5hollow_past h = sym (simp (get_or-eq_default xs nan {n = k + 4} (omega arith), mul_nan, add_nan))
 
-  sum6_past : length xs < k + 6 → nan ≡ sum6 ws xs k
+  pub sum6_past : length xs < k + 6 → nan ≡ sum6 ws xs k
   sum6_past h = sym (simp (get_or-eq_default xs nan {n = k + 5} (omega arith), mul_nan, add_nan))
 
-  sum6descending_past : length xs < k + 6 → nan ≡ sum6descending ws xs k
+  pub sum6descending_past : length xs < k + 6 → nan ≡ sum6descending ws xs k
   sum6descending_past h = sym (simp (get_or-eq_default xs nan {n = k + 5} (omega arith), mul_nan, nan_add))
 
-  sum7hollow_past : length xs < k + 7 → nan ≡ sum7hollow ws xs k
+  pub sum7hollow_past : length xs < k + 7 → nan ≡ sum7hollow ws xs k
   sum7hollow_past h = sym (simp (get_or-eq_default xs nan {n = k + 6} (omega arith), mul_nan, add_nan))
 
 module _ (a b c d : ℤ) (xs : List Float) (k : ℕ) where

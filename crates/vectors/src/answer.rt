@@ -1,5 +1,5 @@
 // What a call answers that may refuse to do its work.
-ghost use Rattle.std.specs.Prelude.{◌≡◌, ◌+◌, ◌&&◌, leb};
+ghost use Rattle.std.specs.Prelude.{◌≡◌, ◌+◌, leb};
 ghost use Rattle.vectors.specs.Answer.{refusal_number, number_of};
 ghost use Rattle.vectors.specs.Fault.{fault_of, all_fit};
 
@@ -21,16 +21,6 @@ impl From<Refusal> for u32 {
             Refusal::Length => 11,
         }
     }
-}
-
-// Whether both hold, with no branch left to the caller.
-pub fn and_also(x: bool, y: bool) -> bool
-    ensures { result ≡ (x && y) }
-{
-    if x {
-        return y;
-    }
-    false
 }
 
 // Whether n numbers stand from place at on in a memory of len.

@@ -1,7 +1,7 @@
-// The finite differences of diff.rs, over lent parts.
+// The finite differences of diff.rs, over lent parts. A vector and the memory of its result stay parameters: a struct of both would be made for one call.
 ghost use Rattle.std.specs.Prelude.{◌≡◌, ◌≤◌, [], ◌∷◌, length};
 ghost use Rattle.vectors.specs.Answer.{number_of, left_by};
-ghost use Rattle.vectors.specs.Dissipation.{radial_correction_of, half_dissipation_of, dissipation_of};
+ghost use Rattle.vectors.specs.Dissipation.{radial_correction_of, half_dissipation_of, dissipation_scale, dissipation_of};
 ghost use Rattle.vectors.specs.DissipationLaws.{corrected_by, scaled_by};
 ghost use Rattle.vectors.specs.Fault.{fault_of, all_fit, short_of};
 ghost use Rattle.vectors.specs.FaultLaws.{BothFit};
@@ -16,7 +16,8 @@ use crate::field_vector::{fourth_power, square};
 use crate::grid::{delta, point};
 use crate::rows;
 
-// The first derivative along r of a vector on the grid of this level.
+// The first derivative along r of a vector on the grid of this level. This and the two like it differ in what they call: one for all would take it as a
+// closure, with clauses on what it asks and leaves, and no line less.
 pub fn diff(level: u32, vector: &[f64], out: &mut [f64]) -> Result<(), Refusal>
     ensures refused { number_of result ≡ fault_of level (all_fit level (length vector.now ∷ length out.old ∷ [])) }
     ensures left { out.new ≡ left_by result (diff_of (spacing_of level) vector.now) out.old }
@@ -34,8 +35,8 @@ fn diff_rows(h: f64, vector: &[f64], out: &mut [f64])
     let d = 12.0 * h;
     out[0] = rows::row(rows::DIFF_LEFT0, vector, 0) / d;
     out[1] = rows::row(rows::DIFF_LEFT1, vector, 0) / d;
-    for i in 2..n - 2 {
-        out[i] = rows::row_hollow(rows::DIFF_INNER, vector, i - 2) / d;
+    for (i, inner) in out[2..n - 2].iter_mut().enumerate() {
+        *inner = rows::row_hollow(rows::DIFF_INNER, vector, i) / d;
     }
     out[n - 2] = rows::row(rows::DIFF_RIGHT1, vector, n - 5) / d;
     out[n - 1] = rows::row(rows::DIFF_RIGHT0, vector, n - 5) / d;
@@ -60,8 +61,8 @@ fn diff2_rows(h: f64, vector: &[f64], out: &mut [f64])
     let d = 12.0 * (h * h);
     out[0] = rows::row(rows::DIFF2_EDGE0, vector, 0) / d;
     out[1] = rows::row(rows::DIFF2_EDGE1, vector, 0) / d;
-    for i in 2..n - 2 {
-        out[i] = rows::row(rows::DIFF2_INNER, vector, i - 2) / d;
+    for (i, inner) in out[2..n - 2].iter_mut().enumerate() {
+        *inner = rows::row(rows::DIFF2_INNER, vector, i) / d;
     }
     out[n - 2] = rows::row_descending(rows::DIFF2_EDGE1, vector, n - 6) / d;
     out[n - 1] = rows::row_descending(rows::DIFF2_EDGE0, vector, n - 6) / d;
@@ -88,7 +89,8 @@ fn diff3_rows(vector: &[f64], out: &mut [f64])
     diff3_run(vector, out, end, n, 6);
 }
 
-// Points lo to hi, where a point's seven numbers begin back points before it.
+// Points lo to hi, where a point's seven numbers begin back points before it. By an index: an iterator over out[lo..hi] would count beside it, and
+// the seven numbers would begin at lo + i - back.
 fn diff3_run(vector: &[f64], out: &mut [f64], lo: usize, hi: usize, back: usize)
     requires { (length out.old ≡ length vector.now) × Windows (length vector.now) lo hi back }
     ensures { (length out.new ≡ length out.old)
@@ -135,7 +137,15 @@ fn dissipation_passes(level: u32, vector: &[f64], half: &mut [f64], out: &mut [f
     diff3_rows(vector, half);
     correct(level, half);
     diff3_rows(half, out);
-    scale(DISSIPATION_FACTOR / delta(level) / 64.0, out);
+    scale(dissipation_scale(delta(level)), out);
+}
+
+// What the dissipation is scaled by, on a grid of this spacing.
+#[tactic(auto, using(crate::specs::DissipationLaws::scale_is))]
+pub fn dissipation_scale(h: f64) -> f64
+    ensures { result ≡ dissipation_scale h }
+{
+    DISSIPATION_FACTOR / h / 64.0
 }
 
 // The radial correction at coordinate r, which dampens the dissipation away from the origin.
@@ -156,7 +166,7 @@ fn correct(level: u32, values: &mut [f64])
 }
 
 // Each number times the factor.
-fn scale(factor: f64, values: &mut [f64])
+pub fn scale(factor: f64, values: &mut [f64])
     ensures { values.new ≡ scaled_by factor values.old }
 {
     for value in values.iter_mut() {

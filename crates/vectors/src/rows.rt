@@ -56,7 +56,8 @@ fn plus<'a, I: Iterator<Item = (&'a i16, &'a f64)> + Drop>(sum: f64, pairs: I) -
     })
 }
 
-// The sum of a row over the numbers from k on; NaN where there are fewer than weights.
+// The sum of a row over the numbers from k on; NaN where there are fewer than weights. A place and not a slice, which could not say that, here and
+// in the next two.
 pub fn row<const N: usize>(w: [i16; N], v: &[f64], k: usize) -> f64
     ensures { result ≡ row_sum w.entry v.now k }
 {

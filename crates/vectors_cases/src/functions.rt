@@ -48,6 +48,8 @@ pub fn all(rt: &impl Print) -> io::Result<()> {
     ties(rt)
 }
 
+// A function that calls one that it is given has to ask that this may be called. Three do; a struct with that fact for a field
+// would be no plainer.
 fn specials<F: Fn(f64) -> f64>(rt: &impl Print, name: &str, f: F) -> io::Result<()>
     requires { F.IsAlwaysCallable f }
 {

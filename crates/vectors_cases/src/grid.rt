@@ -75,7 +75,7 @@ pub fn beyond(rt: &impl Print) -> io::Result<()> {
     Ok(())
 }
 
-// The digest of a function along the points.
+// The digest of a function along the points. It asks that the function may be called, as the two of functions.rt.
 fn along<F: Fn(f64) -> f64>(level: u32, f: F) -> u64
     requires { F.IsAlwaysCallable f }
 {

@@ -5,14 +5,14 @@ use vectors::bits::{bits_of, of_bits};
 use vectors::constants::BH_RADIAL_FACTOR_THRESHOLD;
 use vectors::field_vector::{min, position_at_or_below};
 
-// The bounds beside the threshold, as bits.
+// The bounds beside the threshold, as bits. No other table runs beside this one.
 #[rattlefmt::skip]
 const BOUNDS: [u64; 7] = [
     0x0000000000000000, 0x8000000000000000, 0xBFE0000000000000, 0x0000000000000001,
     0x7FF0000000000000, 0xFFF0000000000000, 0x7FF8000000000000,
 ];
 
-// The last list has the floats next to the threshold.
+// Lists, the last with the floats next to the threshold. No other table runs beside this one.
 const SHORTS: [&[f64]; 8] = [
     &[0.0, -0.0],
     &[-0.0, 0.0],

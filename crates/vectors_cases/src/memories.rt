@@ -1,4 +1,5 @@
 // The memories of a case: they are filled, a part of each is lent to a call, and what it leaves is taken down.
+use cases::answers::number;
 use cases::arguments::{self, Range};
 use cases::digest::digest;
 use std::fmt;
@@ -67,7 +68,7 @@ pub fn run(case: Case) -> Left {
     let answer = call_on(case, &mut vector, &mut half, &mut out);
     let size = case.size.min(257);
     Left {
-        answer: number(answer),
+        answer: u64::from(number(answer)),
         vector: digest(&vector[..size]),
         half: digest(&half[..size]),
         out: digest(&out[..size]),
@@ -118,13 +119,5 @@ fn call(
             vectors::exp::exp_all(vector);
             Ok(())
         }
-    }
-}
-
-// 01's number of a refusal, 0 where there is none.
-fn number(answer: Result<(), Refusal>) -> u64 {
-    match answer {
-        Ok(()) => 0,
-        Err(refusal) => u32::from(refusal) as u64,
     }
 }

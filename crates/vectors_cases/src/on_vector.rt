@@ -22,6 +22,7 @@ pub fn mapped(rt: &impl Print) -> io::Result<()> {
     Ok(())
 }
 
+// A vector of a kind. `arguments::vector` takes every number for a kind, 16 to 48 for the places of an infinity.
 #[derive(Clone, Copy)]
 pub struct Vector {
     level: u32,
@@ -43,7 +44,7 @@ pub fn levels(rt: &impl Print) -> io::Result<()> {
 
 fn kinds(rt: &impl Print, level: u32) -> io::Result<()> {
     for kind in 0..11 {
-        lines(rt, Vector { level, kind })?;
+        Vector { level, kind }.lines(rt)?;
     }
     Ok(())
 }
@@ -51,41 +52,43 @@ fn kinds(rt: &impl Print, level: u32) -> io::Result<()> {
 // Kind 16 has the infinity at the first point.
 pub fn spikes(rt: &impl Print) -> io::Result<()> {
     for kind in 16..49 {
-        lines(rt, Vector { level: 5, kind })?;
+        Vector { level: 5, kind }.lines(rt)?;
     }
     Ok(())
 }
 
-fn lines(rt: &impl Print, vector: Vector) -> io::Result<()> {
-    println!(rt; "diff {vector} {}", left_by(Operation::Diff, vector).out)?;
-    println!(rt; "diff2 {vector} {}", left_by(Operation::Diff2, vector).out)?;
-    println!(rt; "diff3 {vector} {}", left_by(Operation::Diff3, vector).out)?;
-    let dissipated = left_by(Operation::Dissipation, vector);
-    println!(rt; "dissipation {vector} {}", dissipated.out)?;
-    println!(rt; "corrected {vector} {}", dissipated.half)?;
-    of_values(rt, vector)?;
-    println!(rt;
-        "neumann {vector} {}",
-        left_by(Operation::Neumann, vector).vector
-    )
-}
+impl Vector {
+    fn lines(self, rt: &impl Print) -> io::Result<()> {
+        println!(rt; "diff {self} {}", self.left_by(Operation::Diff).out)?;
+        println!(rt; "diff2 {self} {}", self.left_by(Operation::Diff2).out)?;
+        println!(rt; "diff3 {self} {}", self.left_by(Operation::Diff3).out)?;
+        let dissipated = self.left_by(Operation::Dissipation);
+        println!(rt; "dissipation {self} {}", dissipated.out)?;
+        println!(rt; "corrected {self} {}", dissipated.half)?;
+        self.of_values(rt)?;
+        println!(rt;
+            "neumann {self} {}",
+            self.left_by(Operation::Neumann).vector
+        )
+    }
 
-fn left_by(operation: Operation, vector: Vector) -> Left {
-    let n = length_at_discretization(vector.level);
-    memories::run(Case {
-        operation,
-        level: vector.level,
-        contents: Contents::Kind(vector.kind),
-        size: n,
-        length: n,
-        half: n,
-        room: n,
-    })
-}
+    fn left_by(self, operation: Operation) -> Left {
+        let n = length_at_discretization(self.level);
+        memories::run(Case {
+            operation,
+            level: self.level,
+            contents: Contents::Kind(self.kind),
+            size: n,
+            length: n,
+            half: n,
+            room: n,
+        })
+    }
 
-fn of_values(rt: &impl Print, vector: Vector) -> io::Result<()> {
-    let mut values = [0.0; 257];
-    let n = length_at_discretization(vector.level).min(257);
-    arguments::vector(vector.level, vector.kind, &mut values);
-    lists::lines(rt, vector, &values[..n])
+    fn of_values(self, rt: &impl Print) -> io::Result<()> {
+        let mut values = [0.0; 257];
+        let n = length_at_discretization(self.level).min(257);
+        arguments::vector(self.level, self.kind, &mut values);
+        lists::lines(rt, self, &values[..n])
+    }
 }

@@ -1,64 +1,69 @@
 -- `collapse::carry_out` meets its contract.
-use Rattle.std.proofs.Common.{◌≡◌, ℕ, true, subst, arith}
-use Rattle.collapse.specs.Turns.{is_more}
-use Rattle.program_io.specs.declared.Written.{Written}
-use Rattle.program_io.specs.Output.{Sent}
-use Rattle.collapse.proofs.Turns.{going_begin, going_on, going_falls, going_ended, begun_ends, next_ends, stopped}
+use Rattle.std.proofs.Common.{arith, sym, ◌∙◌}
+use Rattle.collapse.proofs.Turns.{going_begin, nothing_yet, texts_more, going_on, going_falls, carried, carried_part}
 use Rattle.collapse.proofs.carry_out.Goals as goal
 
--- what was written, by where the call's lines end
-sent : (w : Written) {end stop : ℕ} → end ≡ stop → Sent end w → Sent stop w
-sent w e = subst (λ (k : ℕ). Sent k w) e
+-- ---- the call of begin_order
+pub send-requires : goal.send-requires
+send-requires g c = (going_begin _ _ _ _ _ c.requires _ _ _ _ c.begin_order-call.ensures.out_after).fits
 
-pub send-written-requires : goal.send-written-requires
-send-written-requires g c =
-    omega (
-      arith,
-      begun_ends c.args.input.now c.args.state.now c.args.work.now c.args.frames.now c.args.out.now c.begin_order-call.result _ _ _
-          c.begin_order-call.ensures.out_after,
-    )
+pub returns-in_err-send : goal.returns-in_err-send
+returns-in_err-send g c =
+    let going = going_begin _ _ _ _ _ c.requires _ _ _ _ c.begin_order-call.ensures.out_after in
+    carried_part _ _ _ _ _ _ _ _ 0 _ going _ _ _ (nothing_yet _ _ _ _ _ _) c.in_err-send.field-0.0 c.in_err-send.ensures _ c.from_residual.ensures.1
 
-pub loop-written-init : goal.loop-written-init
-loop-written-init g c = (
-  omega arith,
-  omega arith,
-  omega arith,
-  omega arith,
-  going_begin c.args.input.now c.args.state.now c.args.work.now c.args.frames.now c.args.out.now c.requires c.begin_order-call.result _ _ _
-      c.begin_order-call.ensures.out_after,
-  sent c.send-written.result c.end_of.ensures c.send-written.ensures,
-)
+pub loop-job-init : goal.loop-job-init
+loop-job-init g c = record {
+  state = omega arith;
+  work = omega arith;
+  frames = omega arith;
+  out = omega arith;
+  calls = 0;
+  going = going_begin _ _ _ _ _ c.requires _ _ _ _ c.begin_order-call.ensures.out_after;
+  before = _;
+  earlier = nothing_yet _ _ _ _ _ _;
+  sent = c.in_ok-send.ensures;
+}
 
-pub send-written-requires-in-loop-written : goal.send-written-requires-in-loop-written
-send-written-requires-in-loop-written g c =
-    let l = c.loop-written in
-    omega (
-      arith,
-      next_ends c.args.input.now l.state l.work l.frames l.out l.call c.next_call-call.result _ _ _ c.next_call-call.ensures,
-    )
+-- ---- a call after one that left a job
+pub send-requires-in-Some : goal.send-requires-in-Some
+send-requires-in-Some g c =
+    let i = c.loop-job.invariant in
+    let left = sym c.left_of.ensures ∙ c.in-Some.is in
+    omega (arith, (going_on _ _ _ _ _ _ _ _ _ i.calls _ i.going _ left i.frames _ _ _ _ c.go_on-call.ensures.out_after i.work).fits)
 
-pub loop-written-smaller : goal.loop-written-smaller
-loop-written-smaller g c =
-    let l = c.loop-written in
-    going_falls c.args.input.now c.args.state.now c.args.work.now c.args.frames.now c.args.out.now l.state l.work l.frames l.out l.call
-    (let more : is_more l.call ≡ true = grind (arith, c.goes_on.ensures, c.loop-written-test.true) in more) (omega arith) l.invariant.4
-    c.next_call-call.result _ _ _ c.next_call-call.ensures
+pub loop-job-smaller : goal.loop-job-smaller
+loop-job-smaller g c =
+    let i = c.loop-job.invariant in
+    let left = sym c.left_of.ensures ∙ c.in-Some.is in
+    going_falls _ _ _ _ _ _ c.loop-job.work _ _ i.calls _ i.going _ left i.frames _ _ _ _ c.go_on-call.ensures.out_after
 
-pub loop-written-preserved : goal.loop-written-preserved
-loop-written-preserved g c = (
-  omega arith,
-  omega arith,
-  omega arith,
-  omega arith,
-  let l = c.loop-written in
-      going_on c.args.input.now c.args.state.now c.args.work.now c.args.frames.now c.args.out.now l.state l.work l.frames l.out l.call
-      (let more : is_more l.call ≡ true = grind (arith, c.goes_on.ensures, c.loop-written-test.true) in more) (omega arith) (omega arith) l.invariant.4
-      c.next_call-call.result _ _ _ c.next_call-call.ensures,
-  sent c.send-written-in-loop-written.result c.end_of-in-loop-written.ensures c.send-written-in-loop-written.ensures,
-)
+pub loop-job-preserved : goal.loop-job-preserved
+loop-job-preserved g c =
+    let i = c.loop-job.invariant in
+    let left = sym c.left_of.ensures ∙ c.in-Some.is in
+    record {
+      state = omega arith;
+      work = omega arith;
+      frames = omega arith;
+      out = omega arith;
+      calls = _;
+      going = going_on _ _ _ _ _ _ _ _ _ i.calls _ i.going _ left i.frames _ _ _ _ c.go_on-call.ensures.out_after i.work;
+      before = _;
+      earlier = texts_more _ _ _ _ _ i.calls _ i.going _ _ _ i.earlier i.sent;
+      sent = c.in_ok-send-2.ensures;
+    }
 
+pub returns-in_err-send-2 : goal.returns-in_err-send-2
+returns-in_err-send-2 g c =
+    let i = c.loop-job.invariant in
+    let left = sym c.left_of.ensures ∙ c.in-Some.is in
+    let going = going_on _ _ _ _ _ _ _ _ _ i.calls _ i.going _ left i.frames _ _ _ _ c.go_on-call.ensures.out_after i.work in
+    carried_part _ _ _ _ _ _ _ _ _ _ going _ _ _ (texts_more _ _ _ _ _ i.calls _ i.going _ _ _ i.earlier i.sent) c.in_err-send-2.field-0.0
+    c.in_err-send-2.ensures _ c.from_residual-in_err-send-2.ensures.1
+
+-- ---- no job is left
 pub returns : goal.returns
 returns g c =
-    let l = c.loop-written in
-    going_ended c.args.input.now c.args.state.now c.args.work.now c.args.frames.now c.args.out.now l.state l.work l.frames l.out l.call
-    l.invariant.4 l.written l.invariant.5 (stopped _ _ _ c.goes_on.ensures c.loop-written-test.false)
+    let i = c.loop-job.invariant in
+    carried _ _ _ _ _ _ _ _ i.calls _ i.going _ i.before _ i.earlier (sym c.left_of.ensures ∙ c.in_default.is) i.sent

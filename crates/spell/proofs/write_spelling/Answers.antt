@@ -1,20 +1,19 @@
 -- `spell::write_spelling` meets its contract.
-use Rattle.std.proofs.Common.{Err, refl, ap, ◌∙◌, arith}
-use Rattle.spell.proofs.Replies.{answers, ends_in, reply_bytes, answers_sent}
+use Rattle.std.proofs.Common.{arith}
+use Rattle.spell.proofs.Replies.{reply_told, ends_in, reply_bytes, refuses, fails}
 use Rattle.spell.proofs.write_spelling.Goals as goal
 
-pub slice_bounds-send-end : goal.slice_bounds-send-end
-slice_bounds-send-end g c = omega (arith, ends_in _ _ (omega arith) (omega arith) _ _ c.spell.ensures _ c.in-Ok.is)
+pub returns-in_err-end : goal.returns-in_err-end
+returns-in_err-end g c =
+    refuses _ _ c.in_err-end.field-0.0 (reply_told _ _ (omega arith) (omega arith) _ _ c.spell.ensures _ c.in_err-end.was) _ c.from_residual.ensures.1
 
-pub send-requires : goal.send-requires
-send-requires g c = reply_bytes _ _ (omega arith) (omega arith) _ _ c.spell.ensures _ c.in-Ok.is
+pub slice_bounds-write-end : goal.slice_bounds-write-end
+slice_bounds-write-end g c = omega (arith, ends_in _ _ (omega arith) (omega arith) _ _ c.spell.ensures _ c.in_ok-end.was)
 
-pub returns-in-Ok : goal.returns-in-Ok
-returns-in-Ok g c =
-    answers_sent _ _ (omega arith) (omega arith) _ _ c.spell.ensures _ c.in-Ok.is c.send.result c.send.ensures
+pub returns-in_err-write : goal.returns-in_err-write
+returns-in_err-write g c =
+    fails _ _ _ _ c.in_err-write.field-0.0 (reply_bytes _ _ (omega arith) (omega arith) _ _ c.spell.ensures _ c.in_ok-end.was) c.in_err-write.ensures _
+    c.from_residual-in_err-write.ensures.1
 
-pub returns-in-Err-Faulty : goal.returns-in-Err-Faulty
-returns-in-Err-Faulty g c = answers _ _ (omega arith) (omega arith) _ _ c.spell.ensures _ (c.in-Err-Faulty.is ∙ ap Err c.in-Err-Faulty.field-0-is) _ (cc)
-
-pub returns-in-Err-NoRoom : goal.returns-in-Err-NoRoom
-returns-in-Err-NoRoom g c = answers _ _ (omega arith) (omega arith) _ _ c.spell.ensures _ (c.in-Err-NoRoom.is ∙ ap Err c.in-Err-NoRoom.field-0-is) _ refl
+pub returns : goal.returns
+returns g c = (_, reply_bytes _ _ (omega arith) (omega arith) _ _ c.spell.ensures _ c.in_ok-end.was, c.in_ok-write.ensures)

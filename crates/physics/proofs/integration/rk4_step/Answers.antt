@@ -13,7 +13,7 @@ pub advance_state-requires : goal.advance_state-requires
 advance_state-requires c =
     let room = room_to_step_lem _ _ _ c.in_ok-checked_room.ensures in
     let R = roomy room.ranged c.length_at_discretization-n.ensures in
-    (R.is, record { many = R.many; odd = R.odd; state = omega arith; fits = omega arith })
+    (R.is, record { many = R.many; odd = R.odd; fits = omega arith }, omega arith)
 
 pub returns-clause-time : goal.returns-clause-time
 returns-clause-time c = let a = c.args in ap Some (stepped_time_lem a.level a.time a.delta a.state.now)

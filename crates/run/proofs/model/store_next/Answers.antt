@@ -7,7 +7,6 @@ pub returns : goal.returns
 returns c =
     let a = c.args in
     let lent = c.requires in
-    rw c.if-broken.false
-    (stored_made a.s.level _ c.store.result a.work.now a.state.now _
+    stored_made a.s.level _ c.store.result a.work.now a.state.now _
     (record { ranged = sound_level a.s lent.sound; state = lent.state_fits; work = lent.work_fits })
-    c.length_at_discretization-n.ensures c.store.ensures.refused c.store.ensures.left)
+    c.length_at_discretization-n.ensures c.store.ensures.refused c.store.ensures.left

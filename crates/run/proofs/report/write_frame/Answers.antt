@@ -1,11 +1,8 @@
 -- `run::report::write_frame` meets its contract.
-use Rattle.std.proofs.Common.{ℕ, ◌+◌, leb, length, sym, ap, ◌∙◌, leb-true}
+use Rattle.std.proofs.Common.{ℕ, ◌+◌, leb, length, sym, ap, ◌∙◌, rules}
 use Rattle.run.specs.ReportLaws.{length_frame}
 use Rattle.run.proofs.Texts.{no_room_lem, has_room}
 use Rattle.run.proofs.report.write_frame.Goals as goal
-
-pub frame_in-requires : goal.frame_in-requires
-frame_in-requires c = leb-true _ _ (sym c.frame_fits.ensures ∙ c.if-not-frame_fits.false)
 
 pub returns-then-not-frame_fits : goal.returns-then-not-frame_fits
 returns-then-not-frame_fits c = no_room_lem _ _ _ (length_frame _) (sym c.frame_fits.ensures ∙ c.if-not-frame_fits.true)
@@ -13,6 +10,8 @@ returns-then-not-frame_fits c = no_room_lem _ _ _ (length_frame _) (sym c.frame_
 pub returns : goal.returns
 returns c =
     let a = c.args in
-    let wrote = c.frame_in.ensures in
+    let wrote = c.frame.ensures in
     let fits = ap (λ (n : ℕ). leb (a.at + n) (length a.out.now)) (length_frame a.frame.now) ∙ sym c.frame_fits.ensures ∙ c.if-not-frame_fits.false in
-    has_room _ _ _ fits wrote.0 wrote.1
+    let memory = wrote.memory in
+    let became = has_room _ _ _ fits wrote.ends wrote.is in
+    search rules

@@ -1,9 +1,10 @@
 -- `run::report::write_outcome` meets its contract.
-use Rattle.run.proofs.Texts.{puts_take, puts_count, as_text}
+use Rattle.std.proofs.Common.{refl, rules}
+use Rattle.run.proofs.Texts.{written_take, as_text}
 use Rattle.run.proofs.report.write_outcome.Goals as goal
 
-pub slice_bounds-write_text-end : goal.slice_bounds-write_text-end
-slice_bounds-write_text-end c = puts_count c.outcome_in-end.ensures
-
 pub returns : goal.returns
-returns c = as_text _ _ c.write_text.ensures (puts_take c.outcome_in-end.ensures)
+returns c =
+    let memory = c.outcome.ensures.memory in
+    let took = written_take refl c.outcome.ensures in
+    as_text _ _ c.write_text.ensures (search rules)

@@ -6,5 +6,5 @@ use Rattle.vectors.proofs.diff.diff2.Goals as goal
 pub diff2_rows-requires : goal.diff2_rows-requires
 diff2_rows-requires c =
     let lent = lent_lem _ _ c.in_ok-checked_lengths.ensures in
-    let points = lent.1 0 (omega arith) in
-    (omega arith, lent.1 1 (omega arith) ∙ sym points)
+    let points = lent.each 0 (omega arith) in
+    (omega arith, lent.each 1 (omega arith) ∙ sym points)

@@ -1,7 +1,8 @@
--- The invariant: what stands before i is the difference.
-use Rattle.vectors.specs.MemoryLaws.{Grown}
+-- The invariant: what stands before i of the inner points is the difference.
+use Rattle.std.proofs.Common.{◌+◌}
+use Rattle.vectors.specs.MemoryLaws.{Filled}
 use Rattle.vectors.specs.Stencil.{diff_at}
 use Rattle.vectors.proofs.diff.diff_rows.Given as goal
 
 abbrev pub invariant-loop-i : goal.invariant-loop-i
-invariant-loop-i l = Grown 0 2 l.i (λ E. diff_at l.h l.vector) l.initial.out l.out
+invariant-loop-i l = Filled 0 l.i (λ k. diff_at l.h l.vector (2 + k)) l.initial.inner-items l.inner-items

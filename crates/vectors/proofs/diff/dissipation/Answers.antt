@@ -6,4 +6,4 @@ use Rattle.vectors.proofs.diff.dissipation.Goals as goal
 pub dissipation_passes-requires : goal.dissipation_passes-requires
 dissipation_passes-requires c =
     let lent = lent_lem _ _ c.in_ok-checked_lengths.ensures in
-    (omega arith, record { one = lent.1 0 (omega arith); other = lent.1 1 (omega arith) }, lent.1 2 (omega arith))
+    (omega arith, record { one = lent.each 0 (omega arith); other = lent.each 1 (omega arith) }, lent.each 2 (omega arith))

@@ -1,0 +1,20 @@
+-- `Slots::compute_radial_gradient` meets its contract.
+use Rattle.std.proofs.Common.{refl, arith}
+use Rattle.vectors.specs.Grid.{spacing_of}
+use Rattle.vectors.specs.Stencil.{diff_of}
+use Rattle.vectors.specs.StencilLaws.{length-diff_of}
+use Rattle.physics.specs.DifferenceLaws.{differed}
+use Rattle.physics.proofs.slots.Slots.compute_radial_gradient.Goals as goal
+
+pub returns : goal.returns
+returns c =
+    let s = c.args.self.now in
+    let h = spacing_of s.level in
+    let parts = c.split_at_mut-before.ensures in
+    record {
+      memory = refl;
+      level = refl;
+      points = refl;
+      became = differed s.level s.n 8 (diff_of h) s.w.now _ _ _ c.diff.result (omega arith) s.grid (omega arith) (omega arith) (omega arith) parts.front parts.back
+          c.diff.ensures.refused c.diff.ensures.left (length-diff_of h);
+    }

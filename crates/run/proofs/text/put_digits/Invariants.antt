@@ -1,8 +1,0 @@
--- The invariant: the digits that are left, put where they belong, make the text asked for.
-use Rattle.std.proofs.Common.{◌≡◌}
-use Rattle.vectors.specs.Memory.{put}
-use Rattle.run.specs.Report.{digits}
-use Rattle.run.proofs.text.put_digits.Given as goal
-
-abbrev pub invariant-loop-i : goal.invariant-loop-i
-invariant-loop-i l = put l.first (digits l.base l.i l.rest) l.out ≡ put l.first (digits l.base l.k l.n) l.initial.out

@@ -78,7 +78,7 @@ fn halve(
     requires { Ends low high left made }
     ensures { Halved runs.unit runs.settings low high left made runs.budget state.old work.old (bracket_of result) state.new work.new }
 {
-    let stopped = |why: Why| -> Bracket
+    let stopped = |made: u32, why: Why| -> Bracket
         ensures { bracket_of result ≡ stop low high made (why_of why) }
     {
         Bracket {
@@ -89,17 +89,17 @@ fn halve(
         }
     };
     if left == 0 {
-        return stopped(Why::Used);
+        return stopped(made, Why::Used);
     }
     if high - low == 1 {
-        return stopped(Why::Adjacent);
+        return stopped(made, Why::Adjacent);
     }
     let middle = (low + high) / 2;
     match side_of(run_at(runs, middle, state, work)) {
         Ok(Side::Timeout) => halve(runs, middle, high, left - 1, made + 1, state, work),
         Ok(Side::Collapse) => halve(runs, low, middle, left - 1, made + 1, state, work),
-        Ok(Side::Neither) => stopped(Why::Neither),
-        Err(refusal) => stopped(Why::Refused(refusal)),
+        Ok(Side::Neither) => stopped(made, Why::Neither),
+        Err(refusal) => stopped(made, Why::Refused(refusal)),
     }
 }
 

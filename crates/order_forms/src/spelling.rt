@@ -32,7 +32,9 @@ fn put_command(code: u8, operand: &[u8], out: &mut [u8], at: usize) -> usize
     let from = at + 1;
     let end = from + operand.len();
     out[at] = code;
-    out[from..end].copy_from_slice(operand);
+    for (i, byte) in operand.iter().enumerate() {
+        out[from + i] = *byte;
+    }
     end
 }
 
@@ -48,8 +50,8 @@ fn put_order(input: &[u8], p: Places, out: &mut [u8])
     let dx_level = put_command(4, &input[p.interval..p.interval + 8], out, interval);
     let skip = put_command(5, &input[p.dx_level..p.dx_level + 1], out, dx_level);
     let begin = put_command(6, &input[p.skip..p.skip + 1], out, skip);
-    let end = put_command(7, &input[p.advances..p.advances + n], out, begin);
-    out[end] = 9;
+    put_command(7, &input[p.advances..p.advances + n], out, begin);
+    out[begin + 1 + n] = 9;
 }
 
 // Writes the order's spelling into lent bytes, from the first on. Answers where it ends.

@@ -1,6 +1,5 @@
 // A draft: what an order of the table is written from. oracle/orders/draft.rs does the same.
-use std::alloc::Global;
-use std::io;
+use crate::order::Order;
 
 // The operands of the six settings, floats by their bits.
 #[derive(Clone, Copy)]
@@ -39,66 +38,55 @@ pub struct Draft {
 }
 
 impl Draft {
-    // The bytes of an order with these commands. 1 to 9: that command. A, B, C: the bytes 00, 0A, FF. D: the switch 2. E, F:
-    // advances at every place before 4,090, before 4,095.
-    pub fn bytes(&self, alloc: Global, commands: &[u8]) -> io::Result<Vec<u8>> {
-        let mut bytes = Vec::new(alloc);
-        for command in commands {
-            self.put(*command, &mut bytes)?;
+    // The bytes of these commands, which stand in parts. 1 to 9: that command. A, B, C: the bytes 00, 0A, FF. D: the switch 2.
+    // E, F: advances at every place before 4,090, before 4,095.
+    pub fn write(&self, commands: &[&[u8]], order: &mut Order) {
+        for command in commands.iter().copied().flatten() {
+            self.put(*command, order);
         }
-        Ok(bytes)
     }
 
-    fn put(&self, command: u8, bytes: &mut Vec<u8>) -> io::Result<()> {
+    fn put(&self, command: u8, order: &mut Order) {
         let asked = self.asked;
         match command {
-            b'1' => float(1, asked.amplitude, bytes),
-            b'2' => byte(2, asked.level, bytes),
-            b'3' => float(3, asked.max_time, bytes),
-            b'4' => float(4, asked.interval, bytes),
-            b'5' => byte(5, asked.dx_level, bytes),
-            b'6' => byte(6, asked.skip, bytes),
-            b'7' => Ok(bytes.push(7)?),
-            b'8' => self.advance(bytes),
-            b'9' => Ok(bytes.push(9)?),
-            b'A' => Ok(bytes.push(0x00)?),
-            b'B' => Ok(bytes.push(0x0A)?),
-            b'C' => Ok(bytes.push(0xFF)?),
-            b'D' => byte(6, 2, bytes),
-            b'E' => self.advances_before(4090, bytes),
-            b'F' => self.advances_before(4095, bytes),
-            _ => Ok(()),
+            b'1' => float(1, asked.amplitude, order),
+            b'2' => order.extend(&[2, asked.level]),
+            b'3' => float(3, asked.max_time, order),
+            b'4' => float(4, asked.interval, order),
+            b'5' => order.extend(&[5, asked.dx_level]),
+            b'6' => order.extend(&[6, asked.skip]),
+            b'7' => order.push(7),
+            b'8' => self.advance(order),
+            b'9' => order.push(9),
+            b'A' => order.push(0x00),
+            b'B' => order.push(0x0A),
+            b'C' => order.push(0xFF),
+            b'D' => order.extend(&[6, 2]),
+            b'E' => self.advances_before(4090, order),
+            b'F' => self.advances_before(4095, order),
+            _ => {}
         }
     }
 
-    fn advance(&self, bytes: &mut Vec<u8>) -> io::Result<()> {
-        let budget = if bytes.len() % 2 == 0 {
+    fn advance(&self, order: &mut Order) {
+        let budget = if order.len() % 2 == 0 {
             self.even
         } else {
             self.odd
         };
-        bytes.push(8)?;
-        bytes.extend_from_slice(&budget.to_le_bytes())?;
-        Ok(())
+        order.push(8);
+        order.extend(&budget.to_le_bytes());
     }
 
     // An advance has five bytes.
-    fn advances_before(&self, end: usize, bytes: &mut Vec<u8>) -> io::Result<()> {
-        for _ in 0..end.saturating_sub(bytes.len()).div_ceil(5) {
-            self.advance(bytes)?;
+    fn advances_before(&self, end: usize, order: &mut Order) {
+        for _ in 0..end.saturating_sub(order.len()).div_ceil(5) {
+            self.advance(order);
         }
-        Ok(())
     }
 }
 
-fn byte(command: u8, operand: u8, bytes: &mut Vec<u8>) -> io::Result<()> {
-    bytes.push(command)?;
-    bytes.push(operand)?;
-    Ok(())
-}
-
-fn float(command: u8, bits: u64, bytes: &mut Vec<u8>) -> io::Result<()> {
-    bytes.push(command)?;
-    bytes.extend_from_slice(&bits.to_le_bytes())?;
-    Ok(())
+fn float(command: u8, bits: u64, order: &mut Order) {
+    order.push(command);
+    order.extend(&bits.to_le_bytes());
 }

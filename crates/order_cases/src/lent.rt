@@ -1,13 +1,13 @@
 // Lent bytes: what a call of the writer answers and leaves there.
 use crate::digest::with;
+use crate::order::MOST;
 use order_forms::spelling::{SpellError, spell};
 use std::{fmt, io};
 
 // How many more bytes than the order has the last call lends.
 pub const MORE: usize = 3;
 
-// The longest order has 4,100 bytes.
-const MOST: usize = 4103;
+const ROOM: usize = MOST + MORE;
 
 // How many bytes were lent, the answer, and a digest of all of them afterwards.
 #[derive(Clone, Copy, PartialEq)]
@@ -47,8 +47,8 @@ pub fn line(rt: &impl Print, order: &[u8]) -> io::Result<()> {
 }
 
 pub fn call(order: &[u8], room: usize) -> Answered {
-    let mut lent = [0u8; MOST];
-    in_part(order, &mut lent[..room.min(MOST)])
+    let mut lent = [0u8; ROOM];
+    in_part(order, &mut lent[..room.min(ROOM)])
 }
 
 fn in_part(order: &[u8], lent: &mut [u8]) -> Answered {

@@ -5,6 +5,7 @@ mod carry;
 mod digest;
 mod draft;
 mod lent;
+mod order;
 mod orders;
 mod permutations;
 mod table;
@@ -13,27 +14,12 @@ use carry::{FRAMES, Memories, OUT, STATE, WORK};
 use std::io;
 
 fn main(rt: HostRuntime) -> io::Result<()> {
-    let alloc = rt.alloc();
     let mut memories = Memories {
         state: [0.0; STATE],
         work: [0.0; WORK],
         frames: [0.0; FRAMES],
         out: [0; OUT],
     };
-    let orders = orders::all(alloc)?;
-    for (k, order) in orders.iter().enumerate() {
-        heading(&rt, k, order)?;
-        memories.carry_out(&rt, order)?;
-    }
-    permutations::line(&rt, alloc)
-}
-
-// The order's number, how many bytes it has and their digest; its spelling.
-fn heading(rt: &impl Print, k: usize, order: &[u8]) -> io::Result<()> {
-    println!(rt;
-        "order {k} bytes {} {}",
-        order.len(),
-        digest::with(1, order)
-    )?;
-    lent::line(rt, order)
+    orders::all(&rt, &mut memories)?;
+    permutations::line(&rt)
 }

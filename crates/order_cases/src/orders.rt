@@ -1,7 +1,10 @@
 // The orders by number, as in oracle/orders/table.rs.
+use crate::carry::Memories;
+use crate::digest::with;
 use crate::draft::{Asked, Draft};
+use crate::lent;
+use crate::order::Order;
 use crate::table::{F0_5, F1, F20, Row, TWO, WRITTEN};
-use std::alloc::Global;
 use std::io;
 
 const GOOD: Draft = Draft {
@@ -34,27 +37,28 @@ const SEQUENCES: [&str; 36] = [
     "123456791A", "12345679A", "12345679B", "12345679C", "12345679D", "1234567",
 ];
 
-// The bytes of the orders so far.
+// What prints the orders and carries them out, each as it is made; how many there were so far.
 #[derive(Drop)]
-struct Orders {
-    alloc: Global,
-    all: Vec<Vec<u8>>,
+struct Orders<'a, P: Print> {
+    rt: &'a P,
+    memories: &'a mut Memories,
+    count: u64,
 }
 
-pub fn all(alloc: Global) -> io::Result<Vec<Vec<u8>>> {
+pub fn all<P: Print>(rt: &P, memories: &mut Memories) -> io::Result<()> {
     let mut orders = Orders {
-        alloc,
-        all: Vec::new(alloc),
+        rt,
+        memories,
+        count: 0,
     };
     orders.cut()?;
     orders.with_one_more()?;
     orders.with_one_less()?;
     orders.in_sequence()?;
-    orders.written()?;
-    Ok(orders.all)
+    orders.written()
 }
 
-impl Orders {
+impl<P: Print> Orders<'_, P> {
     fn cut(&mut self) -> io::Result<()> {
         for (commands, least, most) in CUT {
             self.cut_to(commands, least, most)?;
@@ -64,7 +68,7 @@ impl Orders {
 
     fn cut_to(&mut self, commands: &str, least: usize, most: usize) -> io::Result<()> {
         for length in least..=most {
-            self.push(GOOD, commands.as_bytes(), Some(length))?;
+            self.carry_out(GOOD, &[commands.as_bytes()], Some(length))?;
         }
         Ok(())
     }
@@ -79,9 +83,8 @@ impl Orders {
 
     fn with(&mut self, command: u8) -> io::Result<()> {
         for place in 0..=TWO.len() {
-            let mut commands = Vec::from_slice(self.alloc, TWO.as_bytes())?;
-            commands.insert(place, command)?;
-            self.push(GOOD, &commands, None)?;
+            let (before, after) = TWO.as_bytes().split_at(place);
+            self.carry_out(GOOD, &[before, &[command], after], None)?;
         }
         Ok(())
     }
@@ -89,16 +92,15 @@ impl Orders {
     // A command left out.
     fn with_one_less(&mut self) -> io::Result<()> {
         for place in 0..TWO.len() {
-            let mut commands = Vec::from_slice(self.alloc, TWO.as_bytes())?;
-            commands.remove(place);
-            self.push(GOOD, &commands, None)?;
+            let (before, after) = TWO.as_bytes().split_at(place);
+            self.carry_out(GOOD, &[before, &after[1..]], None)?;
         }
         Ok(())
     }
 
     fn in_sequence(&mut self) -> io::Result<()> {
         for commands in SEQUENCES {
-            self.push(GOOD, commands.as_bytes(), None)?;
+            self.carry_out(GOOD, &[commands.as_bytes()], None)?;
         }
         Ok(())
     }
@@ -113,16 +115,35 @@ impl Orders {
     fn row(&mut self, row: Row) -> io::Result<()> {
         let (settings, commands, (even, odd), length) = row;
         let asked = Asked::from(settings);
-        self.push(Draft { asked, even, odd }, commands.as_bytes(), length)
+        self.carry_out(Draft { asked, even, odd }, &[commands.as_bytes()], length)
     }
 
     // Cut to the length, or zeros up to it after the commands.
-    fn push(&mut self, draft: Draft, commands: &[u8], length: Option<usize>) -> io::Result<()> {
-        let mut order = draft.bytes(self.alloc, commands)?;
+    fn carry_out(
+        &mut self,
+        draft: Draft,
+        commands: &[&[u8]],
+        length: Option<usize>,
+    ) -> io::Result<()> {
+        let mut order = Order::new();
+        draft.write(commands, &mut order);
         if let Some(n) = length {
-            order.resize(n, 0)?;
+            order.resize(n);
         }
-        self.all.push(order)?;
-        Ok(())
+        self.print(order.as_slice())
+    }
+
+    // The order's number, how many bytes it has and their digest; its spelling; the lines of its turns.
+    fn print(&mut self, order: &[u8]) -> io::Result<()> {
+        let rt = self.rt;
+        println!(rt;
+            "order {} bytes {} {}",
+            self.count,
+            order.len(),
+            with(1, order)
+        )?;
+        self.count = self.count.wrapping_add(1);
+        lent::line(rt, order)?;
+        self.memories.carry_out(rt, order)
     }
 }

@@ -1,7 +1,7 @@
 // All sequences of one order's six settings: they have one spelling.
 use crate::digest::with;
 use crate::lent::{Answered, MORE, call};
-use std::alloc::Global;
+use crate::order::Order;
 use std::io;
 
 const SEQUENCES: usize = 720;
@@ -21,16 +21,16 @@ const CALLS: [u8; 17] = [7, 8, 0, 0, 0, 0, 8, 1, 2, 3, 4, 8, 5, 0, 0, 0, 9];
 
 // How many sequences there are, how many bytes each has and a digest of all their bytes; the call for the first, and for how
 // many it is the same.
-pub fn line(rt: &impl Print, alloc: Global) -> io::Result<()> {
-    let first = order(alloc, 0)?;
+pub fn line(rt: &impl Print) -> io::Result<()> {
+    let first = order(0);
     let n = first.len();
-    let answered = spelled(&first);
+    let answered = spelled(first.as_slice());
     let mut digest = 1;
     let mut same = 0u64;
     for k in 0..SEQUENCES {
-        let order = order(alloc, k)?;
-        digest = with(digest, &order);
-        same = same.wrapping_add(u64::from(spelled(&order) == answered));
+        let order = order(k);
+        digest = with(digest, order.as_slice());
+        same = same.wrapping_add(u64::from(spelled(order.as_slice()) == answered));
     }
     print!(rt; "sequences {SEQUENCES} bytes {n} {digest} ")?;
     println!(rt; "spelled {answered} same {same}")
@@ -41,15 +41,15 @@ fn spelled(order: &[u8]) -> Answered {
 }
 
 // The order with its settings in sequence k.
-fn order(alloc: Global, k: usize) -> io::Result<Vec<u8>> {
+fn order(k: usize) -> Order {
     let mut settings = SETTINGS;
     arrange(&mut settings, k);
-    let mut bytes = Vec::new(alloc);
+    let mut order = Order::new();
     for setting in settings {
-        bytes.extend_from_slice(setting)?;
+        order.extend(setting);
     }
-    bytes.extend_from_slice(&CALLS)?;
-    Ok(bytes)
+    order.extend(&CALLS);
+    order
 }
 
 // At each place any of those from there on; k has their numbers.

@@ -28,7 +28,7 @@ use Rattle.run.specs.CarryOutLaws.{order_prints}
 use Rattle.run.specs.CarryOutEnds.{calls_left, calls_of, next_of, FairNext, go_on_falls, go_on_fair, begin_fair}
 use Rattle.program_io.specs.declared.Failure.{Failure}
 use Rattle.program_io.specs.declared.Failure.TheVariants.{Input, Output}
-use Rattle.program_io.specs.Output.{Sent}
+use Rattle.program_io.specs.Output.{Sent, CutAfter}
 use Rattle.collapse.specs.Turns.{Lent, left_of, end_in, end_of, text_in, then_called, call_at, texts_to, CarriedOut}
 
 -- ---- of work memory a call uses only the length
@@ -250,6 +250,7 @@ module _ (order : List ℕ) (memory work frames : List Float) (out : List ℕ) w
             before = before;
             earlier = earlier;
             sent = grown;
+            cut = tt;
             ends = λ _. none;
             prints = λ _. whole;
             all = subst (Appends held held') whole (texts_more calls (after_carried call memory' frames' out') g held before held' earlier grown);
@@ -257,9 +258,10 @@ module _ (order : List ℕ) (memory work frames : List Float) (out : List ℕ) w
 
       cut_by :
           (failure : Failure) → Sent before held' (take (end_of call) out') (Err failure) →
+          CutAfter before held' (take (end_of call) out') (Err failure) →
           CarriedOut order memory work frames out memory' frames' out' held held' (Err failure)
-      cut_by (Input error) cut = absurd cut
-      cut_by (Output error) (part, rest, is, more, grown) =
+      cut_by (Input error) sent cut = absurd cut
+      cut_by (Output last) (part, rest, is, more, grown) cut =
           let c = after_carried call memory' frames' out' in
           let t = texts_to order work begun calls in
           let (later, lines) = printed_begins g.behind c in
@@ -274,14 +276,16 @@ module _ (order : List ℕ) (memory work frames : List Float) (out : List ℕ) w
             before = before;
             earlier = earlier;
             sent = (part, rest, is, more, grown);
+            cut = cut;
             ends = λ ok. absurd (false≢true ok);
             prints = λ ok. absurd (false≢true ok);
             all = (t ++ part, rest ++ later, all, omega (arith, length-append rest later, more), Appends-trans held before held' t part earlier grown);
           }
 
       pub carried_part :
-          (failure : Failure) → Sent before held' (take (end_of call) out') (Err failure) → (r : Result ⊤ Failure) → IsErrAnd r (λ e. e ≡ failure) →
+          (failure : Failure) → Sent before held' (take (end_of call) out') (Err failure) →
+          CutAfter before held' (take (end_of call) out') (Err failure) → (r : Result ⊤ Failure) → IsErrAnd r (λ e. e ≡ failure) →
           CarriedOut order memory work frames out memory' frames' out' held held' r
-      carried_part failure cut (Ok x) e = absurd e
-      carried_part failure cut (Err f) e =
-          subst (λ (d : Failure). CarriedOut order memory work frames out memory' frames' out' held held' (Err d)) (sym e) (cut_by failure cut)
+      carried_part failure sent cut (Ok x) e = absurd e
+      carried_part failure sent cut (Err f) e =
+          subst (λ (d : Failure). CarriedOut order memory work frames out memory' frames' out' held held' (Err d)) (sym e) (cut_by failure sent cut)

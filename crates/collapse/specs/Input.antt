@@ -19,5 +19,5 @@ cut_prints input = cut_tells (refusal 8 ∷ []) (λ order. read_lines order (rea
 abbrev pub Prints : (input held held' : Option (List ℕ)) → Result ⊤ Failure → Type 0
 Prints None held held' result = ⊤
 Prints (Some bytes) held held' (Ok done) = Appends held held' (texts_of (lines_of bytes))
-Prints (Some bytes) held held' (Err (Output error)) = SentPart held held' (texts_of (lines_of bytes))
+Prints (Some bytes) held held' (Err (Output cut)) = SentPart held held' (texts_of (lines_of bytes))
 Prints (Some bytes) held held' (Err (Input error)) = Keeps held held'

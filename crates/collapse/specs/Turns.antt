@@ -10,7 +10,7 @@ use Rattle.run.specs.CarryOut.{Answered, refused_call, printed, AfterCall, answe
 use Rattle.run.specs.CarryOutEnds.{next_of}
 use Rattle.std.specs.Io.KnownBytes.{Appends}
 use Rattle.program_io.specs.declared.Failure.{Failure}
-use Rattle.program_io.specs.Output.{Sent}
+use Rattle.program_io.specs.Output.{Sent, CutAfter}
 
 -- "lends for level 7 and 8,192 frame numbers", and room for the lines of any call
 pub record Lent (memory work frames out : ℕ) : Type 0 where
@@ -54,7 +54,8 @@ module _ (order : List ℕ) (work : List Float) (begun : AfterCall) where
 
 -- ---- the whole order
 -- The memories are as the last of these calls left them. The output got the lines of the calls before it, and then its own to their end, or a
--- part of them where a write failed or took nothing. If to their end, no job is left, and the lines of the calls are those of the order.
+-- part of them where a write failed or took nothing, and the answer says how much of them. If to their end, no job is left, and the lines of the
+-- calls are those of the order.
 pub record CarriedOut
     (order : List ℕ) (memory work frames : List Float) (out : List ℕ) (memory' frames' : List Float) (out' : List ℕ)
     (held held' : Option (List ℕ)) (result : Result ⊤ Failure)
@@ -66,6 +67,7 @@ pub record CarriedOut
   pub before : Option (List ℕ)
   pub earlier : Appends held before (texts_to order work (begin_order_of order memory work frames out) calls)
   pub sent : Sent before held' (take (end_of last) out') result
+  pub cut : CutAfter before held' (take (end_of last) out') result
   pub ends : IsOk result → left_of last ≡ None
   pub prints : IsOk result → texts_to order work (begin_order_of order memory work frames out) (suc calls) ≡ texts_of (lines_of order)
   pub all : Sent held held' (texts_of (lines_of order)) result

@@ -3,7 +3,7 @@
 #![tactic(auto)]
 
 ghost use Rattle.std.specs.Prelude.{◌≤◌, ◌≡◌, length, take};
-ghost use Rattle.program_io.specs.Output.{Sent};
+ghost use Rattle.program_io.specs.Output.{Sent, CutAfter};
 ghost use Rattle.collapse.specs.Turns.{Lent, left_of, end_of, CarriedOut, Answers};
 ghost use Rattle.collapse.specs.Input.{Prints};
 
@@ -24,8 +24,8 @@ fn print_answer<R: Read, W: Write>(input: &mut R, output: &mut W) -> Result<(), 
     ensures { Prints (R.remaining input.old) (W.contents output.old) (W.contents output.new) result }
 {
     let mut buffer = [0u8; 4097];
-    let count = read_input(input, &mut buffer)?;
-    answer(output, &buffer[..count])
+    let filled = read_input(input, &mut buffer)?;
+    answer(output, &buffer[..filled.count])
 }
 
 // Carries out the order: lends for level 7, 8,192 frame numbers and their lines.
@@ -70,7 +70,8 @@ fn left_of(call: Result<Lines, NoRoom>) -> Option<Job>
 // Writes the lines of a call.
 fn send<W: Write>(output: &mut W, out: &[u8], call: Result<Lines, NoRoom>) -> Result<(), Failure>
     requires { end_of call ≤ length out.now }
-    ensures { Sent (W.contents output.old) (W.contents output.new) (take (end_of call) out.now) result }
+    ensures cut { CutAfter (W.contents output.old) (W.contents output.new) (take (end_of call) out.now) result }
+    ensures sent { Sent (W.contents output.old) (W.contents output.new) (take (end_of call) out.now) result }
 {
     let end = call.map_or(0, |lines| lines.end);
     write(output, &out[..end])

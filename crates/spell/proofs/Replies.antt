@@ -8,7 +8,7 @@ use Rattle.order_forms.specs.Spelling.{AfterSpelling, after_spelling, spelling}
 use Rattle.std.specs.Prelude.{Option, Result, Ok, Err, IsErrAnd, ⊤}
 use Rattle.std.proofs.KnownBytes.{Keeps-refl}
 use Rattle.program_io.specs.declared.Failure.{Failure}
-use Rattle.program_io.specs.Output.{Sent}
+use Rattle.program_io.specs.Output.{Sent, CutAfter}
 use Rattle.order_forms.specs.declared.spelling.SpellError.{SpellError}
 use Rattle.order_forms.specs.declared.spelling.SpellError.TheVariants.{Faulty, NoRoom}
 use Rattle.spell.specs.declared.Refusal.TheVariants.{Unspelled}
@@ -49,7 +49,7 @@ refuses reply held error is (Err f) e = subst (λ (x : NotSpelled). Answers repl
 
 pub fails :
     (reply : Reply) (held held' : Option (List ℕ)) (bytes : List ℕ) (failure : Failure) → reply ≡ spelled bytes → Sent held held' bytes (Err failure) →
-    (r : Result ⊤ NotSpelled) → IsErrAnd r (λ e. e ≡ Failed failure) → Answers reply held held' r
-fails reply held held' bytes failure is sent (Ok done) e = absurd e
-fails reply held held' bytes failure is sent (Err f) e =
-    subst (λ (x : NotSpelled). Answers reply held held' (Err x)) (sym e) (bytes, is, sent)
+    CutAfter held held' bytes (Err failure) → (r : Result ⊤ NotSpelled) → IsErrAnd r (λ e. e ≡ Failed failure) → Answers reply held held' r
+fails reply held held' bytes failure is sent cut (Ok done) e = absurd e
+fails reply held held' bytes failure is sent cut (Err f) e =
+    subst (λ (x : NotSpelled). Answers reply held held' (Err x)) (sym e) (bytes, is, sent, cut)

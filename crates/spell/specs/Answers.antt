@@ -3,7 +3,7 @@ use Rattle.std.specs.Prelude.{ℕ, List, ◌≡◌, ⊤, Option, Result, Ok, Err
 use Rattle.std.specs.Io.KnownBytes.{Appends, Keeps}
 use Rattle.run.specs.OrderAnswers as order
 use Rattle.order_forms.specs.declared.spelling.SpellError.TheVariants.{Faulty, NoRoom}
-use Rattle.program_io.specs.Output.{Sent}
+use Rattle.program_io.specs.Output.{Sent, CutAfter}
 use Rattle.spell.specs.declared.Refusal.{Refusal}
 use Rattle.spell.specs.declared.Refusal.TheVariants.{TooLong, Unspelled}
 use Rattle.spell.specs.declared.NotSpelled.{NotSpelled}
@@ -22,8 +22,9 @@ told TooLong = refused (number_of TooLong)
 told (Unspelled (Faulty misread)) = refused_at (number_of (Unspelled (Faulty misread))) misread.position
 told (Unspelled NoRoom) = refused (number_of (Unspelled NoRoom))
 
--- All bytes of the spelling went to the output, or a part of them where it failed; or nothing, and the refusal tells the reply.
+-- All bytes of the spelling went to the output, or so many of them where it failed; or nothing, and the refusal tells the reply.
 abbrev pub Answers : Reply → (held held' : Option (List ℕ)) → Result ⊤ NotSpelled → Type 0
 Answers reply held held' (Ok done) = (bytes : List ℕ) × (reply ≡ spelled bytes) × Appends held held' bytes
-Answers reply held held' (Err (Failed failure)) = (bytes : List ℕ) × (reply ≡ spelled bytes) × Sent held held' bytes (Err failure)
+Answers reply held held' (Err (Failed failure)) =
+    (bytes : List ℕ) × (reply ≡ spelled bytes) × Sent held held' bytes (Err failure) × CutAfter held held' bytes (Err failure)
 Answers reply held held' (Err (Refused refusal)) = (reply ≡ told refusal) × Keeps held held'

@@ -20,5 +20,5 @@ abbrev pub Replies : (input held held' : Option (List ℕ)) → Result ⊤ NotSp
 Replies None held held' result = ⊤
 Replies (Some bytes) held held' (Ok done) = Answers (reply_of bytes) held held' (Ok done)
 Replies (Some bytes) held held' (Err (Refused refusal)) = Answers (reply_of bytes) held held' (Err (Refused refusal))
-Replies (Some bytes) held held' (Err (Failed (stream.Output error))) = Answers (reply_of bytes) held held' (Err (Failed (stream.Output error)))
+Replies (Some bytes) held held' (Err (Failed (stream.Output cut))) = Answers (reply_of bytes) held held' (Err (Failed (stream.Output cut)))
 Replies (Some bytes) held held' (Err (Failed (stream.Input error))) = Keeps held held'

@@ -114,8 +114,8 @@ fn print_reply<R: Read, W: Write>(input: &mut R, output: &mut W) -> Result<(), N
     ensures { Replies (R.remaining input.old) (W.contents output.old) (W.contents output.new) result }
 {
     let mut buffer = [0u8; 4097];
-    let count = read_input(input, &mut buffer)?;
-    reply(output, &buffer[..count])
+    let filled = read_input(input, &mut buffer)?;
+    reply(output, &buffer[..filled.count])
 }
 
 // Replies to an input: 8 above 4,096 bytes, before all else.

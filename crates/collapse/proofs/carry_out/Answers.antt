@@ -10,7 +10,8 @@ send-requires g c = (going_begin _ _ _ _ _ c.requires _ _ _ _ c.begin_order-call
 pub returns-in_err-send : goal.returns-in_err-send
 returns-in_err-send g c =
     let going = going_begin _ _ _ _ _ c.requires _ _ _ _ c.begin_order-call.ensures.out_after in
-    carried_part _ _ _ _ _ _ _ _ 0 _ going _ _ _ (nothing_yet _ _ _ _ _ _) c.in_err-send.field-0.0 c.in_err-send.ensures _ c.from_residual.ensures.1
+    carried_part _ _ _ _ _ _ _ _ 0 _ going _ _ _ (nothing_yet _ _ _ _ _ _) c.in_err-send.field-0.0 c.in_err-send.ensures.sent
+    c.in_err-send.ensures.cut _ c.from_residual.ensures.1
 
 pub loop-job-init : goal.loop-job-init
 loop-job-init g c = record {
@@ -22,7 +23,7 @@ loop-job-init g c = record {
   going = going_begin _ _ _ _ _ c.requires _ _ _ _ c.begin_order-call.ensures.out_after;
   before = _;
   earlier = nothing_yet _ _ _ _ _ _;
-  sent = c.in_ok-send.ensures;
+  sent = c.in_ok-send.ensures.sent;
 }
 
 -- ---- a call after one that left a job
@@ -51,7 +52,7 @@ loop-job-preserved g c =
       going = going_on _ _ _ _ _ _ _ _ _ i.calls _ i.going _ left i.frames _ _ _ _ c.go_on-call.ensures.out_after i.work;
       before = _;
       earlier = texts_more _ _ _ _ _ i.calls _ i.going _ _ _ i.earlier i.sent;
-      sent = c.in_ok-send-2.ensures;
+      sent = c.in_ok-send-2.ensures.sent;
     }
 
 pub returns-in_err-send-2 : goal.returns-in_err-send-2
@@ -60,7 +61,7 @@ returns-in_err-send-2 g c =
     let left = sym c.left_of.ensures ∙ c.in-Some.is in
     let going = going_on _ _ _ _ _ _ _ _ _ i.calls _ i.going _ left i.frames _ _ _ _ c.go_on-call.ensures.out_after i.work in
     carried_part _ _ _ _ _ _ _ _ _ _ going _ _ _ (texts_more _ _ _ _ _ i.calls _ i.going _ _ _ i.earlier i.sent) c.in_err-send-2.field-0.0
-    c.in_err-send-2.ensures _ c.from_residual-in_err-send-2.ensures.1
+    c.in_err-send-2.ensures.sent c.in_err-send-2.ensures.cut _ c.from_residual-in_err-send-2.ensures.1
 
 -- ---- no job is left
 pub returns : goal.returns

@@ -15,7 +15,7 @@ use Rattle.collapse.proofs.print_answer.Goals as goal
 sent_prints :
     (bytes : List ℕ) (held held' : Option (List ℕ)) (r : Result ⊤ Failure) → Sent held held' (texts_of (lines_of bytes)) r → Prints (Some bytes) held held' r
 sent_prints bytes held held' (Ok done) s = s
-sent_prints bytes held held' (Err (Output error)) s = s
+sent_prints bytes held held' (Err (Output cut)) s = s
 sent_prints bytes held held' (Err (Input error)) s = absurd s
 
 -- what was sent of the lines of the bytes that were read
@@ -30,5 +30,5 @@ prints (Some bytes) left held held' buffer count room within consumed ended r s 
 
 pub returns : goal.returns
 returns g c =
-    let (within, consumed, ended) = c.in_ok-count.ensures in
-    prints _ _ _ _ c.read_input.new.buffer c.in_ok-count.count (omega arith) within consumed ended _ c.answer.ensures.carried.all
+    let (within, consumed, ended, none) = c.in_ok-filled.ensures in
+    prints _ _ _ _ c.read_input.new.buffer c.in_ok-filled.filled.count (omega arith) within consumed ended _ c.answer.ensures.carried.all

@@ -16,8 +16,8 @@ answers_reply :
     (bytes : List ℕ) (held held' : Option (List ℕ)) (r : Result ⊤ NotSpelled) → Answers (reply_of bytes) held held' r → Replies (Some bytes) held held' r
 answers_reply bytes held held' (Ok done) a = a
 answers_reply bytes held held' (Err (Refused refusal)) a = a
-answers_reply bytes held held' (Err (Failed (Output error))) a = a
-answers_reply bytes held held' (Err (Failed (Input error))) (text, is, sent) = absurd sent
+answers_reply bytes held held' (Err (Failed (Output cut))) a = a
+answers_reply bytes held held' (Err (Failed (Input error))) (text, is, sent, cut) = absurd sent
 
 -- what was answered to the bytes that were read
 replies :
@@ -31,5 +31,5 @@ replies (Some bytes) left held held' buffer count room within consumed ended r a
 
 pub returns : goal.returns
 returns g c =
-    let (within, consumed, ended) = c.in_ok-count.ensures in
-    replies _ _ _ _ c.read_input.new.buffer c.in_ok-count.count (omega arith) within consumed ended _ c.reply.ensures
+    let (within, consumed, ended, none) = c.in_ok-filled.ensures in
+    replies _ _ _ _ c.read_input.new.buffer c.in_ok-filled.filled.count (omega arith) within consumed ended _ c.reply.ensures

@@ -12,8 +12,8 @@ slice_bounds-write-end g c = omega (arith, ends_in _ _ (omega arith) (omega arit
 
 pub returns-in_err-write : goal.returns-in_err-write
 returns-in_err-write g c =
-    fails _ _ _ _ c.in_err-write.field-0.0 (reply_bytes _ _ (omega arith) (omega arith) _ _ c.spell.ensures _ c.in_ok-end.was) c.in_err-write.ensures _
-    c.from_residual-in_err-write.ensures.1
+    fails _ _ _ _ c.in_err-write.field-0.0 (reply_bytes _ _ (omega arith) (omega arith) _ _ c.spell.ensures _ c.in_ok-end.was) c.in_err-write.ensures.sent
+    c.in_err-write.ensures.cut _ c.from_residual-in_err-write.ensures.1
 
 pub returns : goal.returns
-returns g c = (_, reply_bytes _ _ (omega arith) (omega arith) _ _ c.spell.ensures _ c.in_ok-end.was, c.in_ok-write.ensures)
+returns g c = (_, reply_bytes _ _ (omega arith) (omega arith) _ _ c.spell.ensures _ c.in_ok-end.was, c.in_ok-write.ensures.sent)

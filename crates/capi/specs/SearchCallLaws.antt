@@ -2,13 +2,21 @@
 use Rattle.std.specs.Prelude.{◌≡◌, ℕ, ◌<◌, ◌≤◌, List, length, Float}
 use Rattle.std.proofs.Common.{◌∙◌}
 use Rattle.std.proofs.Math.Path.{ap}
-use Rattle.std.specs.Prelude.{None, Some}
+use Rattle.std.specs.Prelude.{None, Some, Result}
 use borrow.Author.Tests.{lt-ltb, le-ltb}
 use Rattle.run.specs.declared.settings.Settings.{Settings}
+use Rattle.threshold.specs.Answers.{searched_of}
 use Rattle.threshold.specs.Search.{Sought, search_of, search_touched}
+use Rattle.threshold.specs.declared.Bracket as bracket
+use Rattle.threshold.specs.declared.refusal.Refusal.{Refusal}
 use Rattle.capi.specs.Layout.{settings_in}
 use Rattle.capi.specs.SearchCall.{short_result_number, after_search, sought_call, search_call, search_call_touched}
 use Rattle.capi.specs.Told.{no_record_number}
+
+-- an answer whose case is known
+pub searched_is : {a b : Result bracket.Bracket Refusal} (n : ℕ) (result after : List Float) → a ≡ b → after_search n after ≡ sought_call (searched_of b) result
+    → after_search n after ≡ sought_call (searched_of a) result
+searched_is n result after e f = rw e f
 
 module _ (slice : List Float) (low high halvings : ℕ) (state work : ℕ) (result : List Float) where
   pub search_none : (unit : Float) (budget : ℕ) → settings_in slice ≡ None

@@ -9,6 +9,10 @@ use Rattle.capi.specs.SpellCall.{spell_number, spell_position, after_spell, spel
 abbrev pub Tells : (number after : ℕ) → Result ℕ SpellError → (before : ℕ) → Type 0
 Tells number after a before = (number ≡ spell_number (answered_by a)) × (after ≡ spell_position (answered_by a) before)
 
+-- an answer whose case is known
+pub spelled_is : {a b : Result ℕ SpellError} (number after before : ℕ) → a ≡ b → Tells number after b before → Tells number after a before
+spelled_is number after before e t = rw e t
+
 pub spell_told : (order bytes bytes' : List ℕ) (number after before : ℕ) (a : Result ℕ SpellError) → after_spelling a bytes' ≡ spelling order bytes
     → Tells number after a before → after_spell number bytes' after ≡ spell_call order bytes before
 unfolding spelled_call spell_call

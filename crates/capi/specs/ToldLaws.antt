@@ -1,7 +1,7 @@
 -- Laws of what the calls answer, by what the slice holds.
 use Rattle.std.specs.Prelude.{◌≡◌, ℕ, List, length, drop, Float}
 use Rattle.std.proofs.Common.{◌∙◌}
-use Rattle.std.proofs.Math.Path.{ap}
+use Rattle.std.proofs.Math.Path.{refl, ap}
 use Rattle.std.specs.Prelude.{None, Some, Result}
 use Rattle.run.specs.Answers.{reply_of, began_of, after_begin, after_advance}
 use Rattle.run.specs.Calls.{begin_of, begin_uses, advance_of, advance_uses}
@@ -10,8 +10,25 @@ use Rattle.run.specs.declared.settings.Record.{Record}
 use Rattle.run.specs.declared.refusal.Refusal.{Refusal}
 use Rattle.run.specs.declared.simulate.Advanced.{Advanced}
 use Rattle.run.specs.declared.simulate.Begun.{Begun}
-use Rattle.capi.specs.Layout.{settings_in, record_in}
+use Rattle.vectors.specs.Memory.{put}
+use Rattle.capi.specs.Layout.{settings_in, record_in, laid_out}
+use Rattle.capi.specs.declared.layout.LastCall.{LastCall}
+use Rattle.capi.specs.declared.told.Told.{Told}
 use Rattle.capi.specs.Told.{no_record_number, after_call, no_record, began_number, began_slice, began_call, begin_call, begin_call_uses, told_of, told_slice, advanced_call, advance_call, advance_call_uses}
+
+-- ---- an answer whose case is known
+pub begun_is : {a b : Result Begun Refusal} (n : ℕ) (slice after : List Float) → a ≡ b → n ≡ began_number (began_of b) → after ≡ began_slice (began_of b) slice
+    → (n ≡ began_number (began_of a)) × (after ≡ began_slice (began_of a) slice)
+begun_is n slice after e f g = rw e (f, g)
+
+pub told_laid : (t u : Told) (last : LastCall) (r : Record) (slice after : List Float) → t ≡ u → t.last ≡ Some last
+    → after ≡ put 0 (laid_out r last.frames last.attempts last.mass) slice → (t.number ≡ u.number) × (after ≡ told_slice u r slice)
+unfolding told_slice
+told_laid t u last r slice after e f g = rw (← e, f) (refl, g)
+
+pub told_kept : (t u : Told) (r : Record) (slice : List Float) → t ≡ u → t.last ≡ None → (t.number ≡ u.number) × (slice ≡ told_slice u r slice)
+unfolding told_slice
+told_kept t u r slice e f = rw (← e, f) (refl, refl)
 
 -- ---- begin
 module _ (slice memory work frames : List Float) where

@@ -119,9 +119,14 @@ stepped_made level n time delta state work w' p h B =
 
 -- ---- what a call that nothing refuses leaves
 
+-- work memory after a call whose number is known
+pub after_number : {number : ℕ} (known level : ℕ) (s : State) (work after : List Float) → number ≡ known → WorkAfter number level s work after
+    → WorkAfter known level s work after
+after_number known level s work after e made = subst (λ (k : ℕ). WorkAfter k level s work after) e made
+
 pub made_accepted : (level number : ℕ) (fits : Bool) (s : State) (work after : List Float) → Level level → fits ≡ true → number ≡ fault_of level fits
     → WorkAfter number level s work after → Made level s work after
-made_accepted level number fits s work after l f e made = subst (λ (k : ℕ). WorkAfter k level s work after) (e ∙ sym (fault_none level fits l f)) made
+made_accepted level number fits s work after l f e made = after_number 0 level s work after (e ∙ sym (fault_none level fits l f)) made
 
 -- the state that was made, as code lends it
 pub lent_made : (level n : ℕ) (work : List Float) → n ≡ points_of level → take (16 * n - 8 * n) (drop (8 * n) work) ≡ part (8 * points_of level) (8 * points_of level) work
@@ -129,9 +134,12 @@ lent_made level n work is =
     let here : take (16 * n - 8 * n) (drop (8 * n) work) ≡ part (8 * n) (8 * n) work = lent (8 * n) (16 * n) (8 * n) work (omega arith) in
     here ∙ ap (λ (m : ℕ). part (8 * m) (8 * m) work) is
 
-pub take_made : (level : ℕ) (work : List Float) → let size = 8 * points_of level in take size (part size size work) ≡ part size size work
+pub take-part : (a m : ℕ) (xs : List Float) → take m (part a m xs) ≡ part a m xs
 unfolding part
-take_made level work = let size = 8 * points_of level in take-take size size (drop size work) (omega arith)
+take-part a m xs = take-take m m (drop a xs) (omega arith)
+
+pub take_made : (level : ℕ) (work : List Float) → let size = 8 * points_of level in take size (part size size work) ≡ part size size work
+take_made level work = let size = 8 * points_of level in take-part size size work
 
 -- the state that was made, stored in state memory
 pub stored_made : {A : Type 0} (level n : ℕ) (answer : Result A Refusal) (work state after : List Float) → RoomToStep level (length state) (length work) → n ≡ points_of level

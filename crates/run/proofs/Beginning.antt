@@ -1,4 +1,4 @@
--- A begin from what the functions ensure that it calls.
+-- A begin from what the functions ensure that it calls, and what a call says of its work memory.
 use Rattle.std.proofs.Common.{le_trans, le_of_eq, ◌≡◌, ℕ, ◌≤◌, Bool, true, false, cond, List, [], ◌∷◌, length, sym, refl, ap, ◌∙◌, append-nil}
 use mathlib.Core.List.{flatten}
 use Rattle.std.specs.Prelude.{Option, None, Some}
@@ -6,9 +6,10 @@ use lib.Ieee.{Float}
 use Rattle.vectors.specs.Memory.{part, put}
 use Rattle.physics.specs.State.{State}
 use Rattle.run.specs.declared.settings.Settings.{Settings}
+use Rattle.run.specs.declared.settings.Record.{Record}
 use Rattle.run.specs.Model.{cell_count, work_count, state_in, first_state, holds_nan, frame_of}
 use Rattle.run.specs.PlainRun.{Machine, option, start}
-use Rattle.run.specs.Calls.{record_of, with_state, with_frames, refused_begin, accepted, AfterBegin, lent_refusal, begin_refusal, begin_of}
+use Rattle.run.specs.Calls.{record_of, with_state, with_frames, refused_begin, accepted, AfterBegin, lent_refusal, begin_refusal, begin_of, begin_uses, is_idle, advance_refusal, advance_uses}
 use Rattle.run.specs.DemandProof.{begin_some, begin_none}
 use Rattle.run.specs.FrameLaws.{put_nothing}
 use Rattle.run.specs.Answers.{next_in}
@@ -16,6 +17,18 @@ use Rattle.run.proofs.Leaves.{time_in}
 use Rattle.run.proofs.Refusals.{lent_all}
 use Rattle.run.proofs.OneAttempt.{stored_is, stored_state}
 
+-- ---- work memory
+pub advance_uses_lem :
+    (run : Record) (memory : List Float) (work budget : ℕ) → advance_refusal run memory work budget ≡ None →
+    advance_uses run memory work budget ≡ cond (is_idle run memory budget) 0 (work_count run.settings)
+unfolding advance_uses
+advance_uses_lem run memory work budget e = rw e
+
+pub begin_uses_lem : (s : Settings) (state work frames : ℕ) → lent_refusal s state work frames ≡ None → begin_uses s state work frames ≡ work_count s
+unfolding begin_uses
+begin_uses_lem s state work frames e = rw e
+
+-- ---- the initial state
 module _ (s : Settings) (memory work frames : List Float) where
   module _ (given : lent_refusal s (length memory) (length work) (length frames) ≡ None)
       (t : Float) (w : List Float) (made : next_in s t w ≡ first_state s) (long : length w ≡ length work) where

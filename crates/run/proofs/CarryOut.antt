@@ -1,13 +1,16 @@
 -- Lines of a call in lent bytes, one after another, and the ways that a call takes.
-use Rattle.std.proofs.Common.{◌≡◌, ℕ, zero, suc, ◌+◌, ◌-◌, ◌*◌, ◌/◌, ◌<◌, ◌≤◌, Bool, true, false, leb, List, [], ◌++◌, map, length, sym, refl, ap, ◌∙◌, suc-mul, add-one, append_assoc, append-nil, arith, length-append, le-leb, leb-false, leb-true}
+use Rattle.std.proofs.Common.{◌≡◌, ℕ, zero, suc, ◌+◌, ◌-◌, ◌*◌, ◌/◌, ◌<◌, ◌≤◌, Bool, true, false, leb, List, [], ◌++◌, map, length, sym, refl, ap, ◌∙◌, mul-le-mul_right, suc-mul, add-one, append_assoc, append-nil, arith, length-append, le-leb, leb-false, leb-true}
 use lib.Ieee.{Float}
 use Rattle.std.proofs.Math.Seq.{take-append_seam, drop-append_seam}
 use borrow.Author.Tests.{lt-leb}
+use Rattle.vectors.specs.Memory.{put}
+use Rattle.vectors.specs.MemoryLaws.{length-put}
 use Rattle.run.specs.Calls.{frames_in}
 use Rattle.run.specs.Report.{frame_line}
 use Rattle.run.specs.ReportLaws.{length_frame}
 use Rattle.run.specs.Lines.{frame, text_of, texts_of}
 use Rattle.run.specs.LinesLaws.{each_frames_in, length-frames_in, frames_room}
+use Rattle.run.specs.CarryOut.{room_for}
 use Rattle.run.specs.declared.writer.Writer.{Writer as Held}
 use Rattle.run.specs.Written.{Written, nothing, then, wider, tight}
 
@@ -28,6 +31,14 @@ module _ (F room : ℕ) (memory : List Float) (large : 6 ≤ F) where
   frames_text_room i h =
       let e : length (frames_in i F memory) * F ≡ i * F = ap (λ (k : ℕ). k * F) (length-frames_in i F memory) in
       omega (arith, frames_room (each_frames_in i F memory h) large)
+
+-- frames up to a count that fits, written from the first byte on, leave the length of the lent bytes
+pub frames_length_lem :
+    (i count F : ℕ) (memory : List Float) (before after : List ℕ) → i ≤ count → count * F ≤ length memory → 6 ≤ F → room_for (length memory) ≤ length before →
+    after ≡ put 0 (frames_text i F memory) before → length after ≡ length before
+frames_length_lem i count F memory before after l fit large room e =
+    let fewer : i * F ≤ length memory = omega (arith, mul-le-mul_right {m = i} {n = count} F l) in
+    ap length e ∙ length-put 0 (frames_text i F memory) before (omega (arith, frames_text_room F (length memory) memory large i fewer))
 
 -- the line of the first of k + 1 frames, and those of the others
 text_first : (k F : ℕ) (f rest : List Float) → length f ≡ F → frames_text (k + 1) F (f ++ rest) ≡ frame_line f ++ frames_text k F rest

@@ -1,7 +1,8 @@
 -- The ways of a call of an order: from what its parts promise to what it answers and leaves.
-use Rattle.std.proofs.Common.{◌≡◌, ℕ, ◌*◌, ◌≤◌, List, [], ◌∷◌, ◌++◌, map, length, sym, refl, ap, subst, arith}
-use Rattle.std.specs.Prelude.{Ok}
+use Rattle.std.proofs.Common.{◌≡◌, ℕ, ◌*◌, ◌≤◌, true, List, [], ◌∷◌, ◌++◌, map, length, sym, refl, ap, ◌∙◌, subst, arith, le-ltb}
+use Rattle.std.specs.Prelude.{None, Ok}
 use lib.Ieee.{Float}
+use Rattle.vectors.specs.Memory.{put}
 use Rattle.run.specs.declared.settings.Settings.{Settings}
 use Rattle.run.specs.declared.simulate.Advanced.{Advanced}
 use Rattle.run.specs.declared.simulate.Begun.{Begun}
@@ -13,9 +14,10 @@ use Rattle.run.specs.Calls.{begin_of, advance_of, frames_told}
 use Rattle.run.specs.AdvanceLaws.{Leaves, advance_leaves}
 use Rattle.run.specs.BeginLaws.{Begins, begin_leaves}
 use Rattle.run.specs.Answers.{reply_of, after_begin, after_advance}
-use Rattle.run.specs.Lines.{Line, frame, text_of, texts_of}
+use Rattle.run.specs.Order.{Read, Refused, read_order}
+use Rattle.run.specs.Lines.{Line, frame, refusal_at, text_of, texts_of}
 use Rattle.run.specs.LinesLaws.{Long, texts_of-append, texts_of_one}
-use Rattle.run.specs.CarryOut.{Fits}
+use Rattle.run.specs.CarryOut.{printed, after_carried, has_room, begin_order_of, read_uses, begin_order_uses, Fits}
 use Rattle.run.specs.declared.writer.Writer.{Writer as Held}
 use Rattle.run.specs.Written.{Written}
 
@@ -67,3 +69,22 @@ module _ (s : Settings) (memory work frames : List Float) (b : Begun) (memory' f
 
   pub begun_large : 6 ≤ frame_count b.record.settings
   begun_large = subst (λ (n : ℕ). 6 ≤ n) size' (begins.large b.record b.count refl)
+
+-- ---- the front of an order
+module _ (order : List ℕ) (memory work frames : List Float) (out : List ℕ) (h : has_room (length frames) (length out) ≡ true) where
+  pub read_uses_lem :
+      (state work' : ℕ) (r : Read) → length order ≤ 4096 → r ≡ read_order order →
+      begin_order_uses order state work' (length frames) (length out) ≡ read_uses state work' (length frames) r
+  unfolding begin_order_uses
+  read_uses_lem state work' r l e = rw (h, le-ltb 4096 (length order) l, e)
+
+  -- an order that the reader refuses: its line from the first byte on
+  pub refused_begin_lem :
+      (n at : ℕ) {end : ℕ} {out' : List ℕ} → length order ≤ 4096 → Refused n at ≡ read_order order →
+      out' ≡ put 0 (text_of (refusal_at n at)) out → end ≡ length (text_of (refusal_at n at)) →
+      after_carried (Ok (record { end = end; next = None })) memory frames out' ≡ begin_order_of order memory work frames out
+  unfolding begin_order_of
+  refused_begin_lem n at l e w d =
+      let one = sym (texts_of_one (refusal_at n at)) in
+      rw (h, le-ltb 4096 (length order) l, ← e)
+      (λ i. record { answer = printed ((d ∙ ap length one) i) None; memory = memory; frames = frames; out = (w ∙ ap (λ (t : List ℕ). put 0 t out) one) i })

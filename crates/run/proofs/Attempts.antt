@@ -173,7 +173,7 @@ module _ (a : Live) (budget : ℕ) where
                 fits = omega arith;
               };
           few = omega arith;
-          steps = λ e. let few = taken run state₀ (length work₀) budget given.1 e in omega arith;
+          steps = λ e. let few = (taken run state₀ (length work₀) budget given.1).few e in omega arith;
           rest = refl;
           quiet = λ e. (refl, e);
         }

@@ -1,5 +1,5 @@
 -- The ways of a call of an order: from what its parts promise to what it answers and leaves.
-use Rattle.std.proofs.Common.{◌≡◌, ℕ, ◌*◌, ◌≤◌, true, List, [], ◌∷◌, ◌++◌, map, length, sym, refl, ap, ◌∙◌, subst, arith, le-ltb}
+use Rattle.std.proofs.Common.{◌≡◌, ℕ, ◌*◌, ◌≤◌, true, List, [], ◌∷◌, ◌++◌, map, length, sym, refl, ap, ◌∙◌, subst, arith, le-ltb, leb-true}
 use Rattle.std.specs.Prelude.{None, Ok}
 use lib.Ieee.{Float}
 use Rattle.vectors.specs.Memory.{put}
@@ -17,7 +17,7 @@ use Rattle.run.specs.Answers.{reply_of, after_begin, after_advance}
 use Rattle.run.specs.Order.{Read, Refused, read_order}
 use Rattle.run.specs.Lines.{Line, frame, refusal_at, text_of, texts_of}
 use Rattle.run.specs.LinesLaws.{Long, texts_of-append, texts_of_one}
-use Rattle.run.specs.CarryOut.{printed, after_carried, has_room, begin_order_of, read_uses, begin_order_uses, Fits}
+use Rattle.run.specs.CarryOut.{printed, after_carried, room_for, has_room, begin_order_of, read_uses, begin_order_uses, Fits}
 use Rattle.run.specs.declared.writer.Writer.{Writer as Held}
 use Rattle.run.specs.Written.{Written}
 
@@ -48,6 +48,10 @@ module _ (j : Job) (memory work frames : List Float) (a : Advanced) (memory' fra
   pub told_long : Long (frame_count a.record.settings) (reply_of a.answer)
   told_long = subst (λ (n : ℕ). Long n (reply_of a.answer)) size leaves.large
 
+  -- room for the lines as before the call
+  pub told_room : (out : List ℕ) → has_room (length frames) (length out) ≡ true → room_for (length frames') ≤ length out
+  told_room out h = let l = leaves in omega (arith, l.long, leb-true (room_for (length frames)) (length out) h)
+
   pub rest_fits : Fits j (reply_of a.answer)
   rest_fits = go (reply_of a.answer) leaves.few
     where
@@ -69,6 +73,10 @@ module _ (s : Settings) (memory work frames : List Float) (b : Begun) (memory' f
 
   pub begun_large : 6 ≤ frame_count b.record.settings
   begun_large = subst (λ (n : ℕ). 6 ≤ n) size' (begins.large b.record b.count refl)
+
+  -- room for the lines as before the call
+  pub begun_room : (out : List ℕ) → room_for (length frames) ≤ length out → room_for (length frames') ≤ length out
+  begun_room out h = let l = begins.long in omega arith
 
 -- ---- the front of an order
 module _ (order : List ℕ) (memory work frames : List Float) (out : List ℕ) (h : has_room (length frames) (length out) ≡ true) where

@@ -1,5 +1,5 @@
 -- What a call that is not refused was given.
-use Rattle.std.proofs.Common.{◌≡◌, ℕ, ◌+◌, ◌≤◌, false, List, arith}
+use Rattle.std.proofs.Common.{◌≡◌, ℕ, ◌+◌, ◌≤◌, false, List, length, arith}
 use Rattle.std.proofs.lemmas.Grind.{common_steps}
 use Rattle.std.specs.Prelude.{None}
 use lib.Ieee.{Float}
@@ -24,8 +24,14 @@ lent_all s state work frames e =
     }
 
 -- an advance that is not refused
-pub taken :
-    (run : Record) (memory : List Float) (work budget : ℕ) → advance_refusal run memory work budget ≡ None →
-    has_ended run.settings (machine_of run memory) ≡ false → run.steps + budget ≤ 2147483647
+pub record Taken (run : Record) (memory : List Float) (work budget : ℕ) : Type 0 where
+  pub lent : Lent run.settings (length memory) work
+  pub few : has_ended run.settings (machine_of run memory) ≡ false → run.steps + budget ≤ 2147483647
+
+pub taken : (run : Record) (memory : List Float) (work budget : ℕ) → advance_refusal run memory work budget ≡ None → Taken run memory work budget
 unfolding advance_refusal
-taken run memory work budget e f = grind (arith, common_steps)
+taken run memory work budget e =
+    record {
+      lent = record { sound = grind (arith, common_steps); state_fits = grind (arith, common_steps); work_fits = grind (arith, common_steps) };
+      few = λ f. grind (arith, common_steps);
+    }

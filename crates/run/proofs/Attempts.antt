@@ -24,7 +24,7 @@ use Rattle.run.specs.PlainRunLaws.{after, attempt_after, Formed, attempt_formed}
 use Rattle.run.specs.Tally.{Reply, full, ran}
 use Rattle.run.specs.Calls.{record_of, machine_of, with_state, with_frames, is_full, Stop, attempts_from, AfterAdvance, left_by, is_idle, advance_refusal, advance_of, advance_uses}
 use Rattle.run.specs.CallsLaws.{from_full, from_more, from_ended}
-use Rattle.run.specs.FrameLaws.{none, put_nothing, put_again, put_frames, length_frames}
+use Rattle.run.specs.FrameLaws.{none, put_nothing, put_again, put_frames, length-put_front, length_frames}
 use Rattle.run.specs.Answers.{ClockOf, state_now, machine_in, lacks_room, CanAttempt, SameMemories, Attempted, AdvanceLeaves, reply_of}
 use Rattle.run.proofs.Leaves.{time_in}
 use Rattle.run.proofs.Refusals.{taken}
@@ -182,6 +182,9 @@ module _ (a : Live) (budget : ℕ) where
     module _ {m : Machine} {live : Live} (h : Holds m live) where
       sized : Sized (points_of s.level) m.state
       sized = h.formed.sized
+
+      pub state_long : length live.state.now ≡ length state₀
+      state_long = ap length h.state_is ∙ length-put_front (lay_out m.state) state₀ (omega (arith, length-lay_out sized, a.state_fits))
 
       pub frames_long : length live.frames.now ≡ length frames₀
       frames_long = ap length h.frames_is ∙ length_frames h.formed.framed frames₀ h.fits

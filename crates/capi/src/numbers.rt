@@ -1,14 +1,24 @@
 // The floats of a record's slice that stand for a whole number or for a switch.
 ghost use Rattle.std.specs.Prelude.{◌≡◌};
 ghost use Rattle.capi.specs.Numbers.{whole_in, switch_in};
+ghost use Rattle.capi.specs.NumbersLaws.{in_range};
 
-// The whole number of 32 bits that x equals.
-#[tactic(auto, unfolding(crate::specs::Numbers::whole_in))]
+// Whether x without its fraction is a whole number of 32 bits.
+fn in_range(x: f64) -> bool
+    ensures { result ≡ in_range x }
+{
+    (x > -1.0) & (x < 4294967296.0)
+}
+
+// The whole number of 32 bits that x equals. It is tested as a float before it is narrowed.
 pub(crate) fn whole_in(x: f64) -> Option<u32>
     ensures { result ≡ whole_in x }
 {
-    let n = std::num::saturating_f64_to_u32(x);
-    (x == f64::from(n)).then_some(n)
+    if !in_range(x) {
+        return None;
+    }
+    let n = std::num::truncating_f64_to_u64(x);
+    (x == n as f64).then_some(n as u32)
 }
 
 // The switch that x equals: 0 or 1.

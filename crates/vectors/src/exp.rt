@@ -3,6 +3,7 @@ ghost use Rattle.std.specs.Prelude.{◌≡◌, map, ◌<◌, All};
 ghost use Rattle.std.specs.Bool.{OnTrue};
 ghost use Rattle.vectors.specs.Exp.{exp_of, fraction_of};
 ghost use Rattle.vectors.specs.ExpInside.{Inside};
+ghost use Rattle.vectors.specs.ExpTable.{mantissa_of};
 
 use crate::bits::power_of_two;
 
@@ -94,7 +95,15 @@ fn fraction(j: usize) -> f64
     requires { j < 256 }
     ensures { result ≡ fraction_of j }
 {
-    f64::from_bits(MANTISSAS[j] + 0x3FE0000000000000)
+    f64::from_bits(mantissa(j) + 0x3FE0000000000000)
+}
+
+// The m of T_j.
+fn mantissa(j: usize) -> u64
+    requires { j < 256 }
+    ensures { result ≡ mantissa_of j }
+{
+    MANTISSAS[j]
 }
 
 // Entry j is the largest m with m^256 <= 2^(j + 52 × 256).

@@ -1,4 +1,4 @@
--- `vectors::exp::fraction` meets its contract: the entry that is read is the table's, and with the exponent's field it is T_j's bits.
+-- `vectors::exp::fraction` meets its contract: the entry with the exponent's field is T_j's bits.
 use mathlib.Core.Path.{◌≡◌, sym, ap, ◌∙◌, subst}
 use mathlib.Core.Bool.{Bool, false, not}
 use Prim.Native.Nat.{ℕ, ◌+◌, ◌*◌, ◌^◌, ◌<◌}
@@ -9,7 +9,7 @@ use lib.Pow.{pow_pos}
 use lib.Ieee.{binary64, fits, of_bits, to_bits, is_nan}
 use lib.Ieee.Bits.{of_bits-to_bits, nan_bits_is}
 use lib.Ieee.Fits.{div-fits}
-use Rattle.vectors.specs.ExpTable.{mantissas, mantissa_of}
+use Rattle.vectors.specs.ExpTable.{mantissa_of}
 use Rattle.vectors.specs.Exp.{fraction_of}
 use Rattle.vectors.specs.ExpLaws.{mantissa_least, mantissa_below, fraction_exact}
 use Rattle.vectors.proofs.Floats.{bits_are, value_no_nan}
@@ -29,17 +29,14 @@ by_bits j h =
     ap (of_bits binary64) (sum ∙ sym bits) ∙ of_bits-to_bits binary64 (fraction_of j) (holds j)
 
 pub overflow_add-result : goal.overflow_add-result
-unfolding mantissas mantissa_of
 overflow_add-result c =
     record { fits = omega (arith, mantissa_below c.args.j c.requires) }
 
 pub returns : goal.returns
-unfolding mantissas mantissa_of
 returns c =
-    by_bits c.args.j c.requires
+    rw c.mantissa.ensures (by_bits c.args.j c.requires)
 
 pub float_from_bits-result : goal.float_from_bits-result
-unfolding mantissas mantissa_of
 float_from_bits-result c =
     let j = c.args.j in
     subst (λ (z : Bool). T (not z)) (sym (nan_bits_is binary64 _ ∙ ap is_nan (returns c)))

@@ -37,19 +37,16 @@ pub fn min(values: &[f64]) -> f64
 fn lesser(m: f64, x: f64) -> f64
     ensures { result ≡ lesser_of m x }
 {
-    if m <= x && m != 0.0 {
-        return m;
+    if m <= x {
+        if m != 0.0 {
+            return m;
+        }
+        return if x.total_cmp(&m).is_lt() { x } else { m };
     }
     if x < m {
         return x;
     }
-    if m.is_nan() {
-        return x;
-    }
-    if x.is_nan() {
-        return m;
-    }
-    if x.total_cmp(&m).is_lt() { x } else { m }
+    if m.is_nan() { x } else { m }
 }
 
 // The first index whose value is <= bound; no NaN is.

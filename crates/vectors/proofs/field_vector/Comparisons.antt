@@ -104,6 +104,12 @@ only_nan nan h = refl
 only_nan (inf s) h = absurd (false≢true h)
 only_nan (fin s m e) h = absurd (false≢true h)
 
+not_nan : (x : Float) → NotNan x → is_nan x ≡ false
+unfolding is_nan
+not_nan nan h = absurd h
+not_nan (inf s) h = refl
+not_nan (fin s m e) h = refl
+
 -- ---- what `lesser` returns
 module _ (m x : Float) where
   pub keeps_not_zero : le m x ≡ true → ne m nought ≡ true → m ≡ lesser_of m x
@@ -120,8 +126,20 @@ module _ (m x : Float) where
   pub keeps_before_nan : is_nan x ≡ true → m ≡ lesser_of m x
   keeps_before_nan h = rw (only_nan x h) (sym (lesser_of_nan_right m))
 
+  -- neither is below the other, and m is a number
+  pub keeps_before_other : le m x ≡ false → lt x m ≡ false → is_nan m ≡ false → m ≡ lesser_of m x
+  keeps_before_other l h a = go (is_nan x) refl
+    where
+      go : (b : Bool) → is_nan x ≡ b → m ≡ lesser_of m x
+      go true e = keeps_before_nan e
+      go false e = absurd (rw h at (floats.lt_of_not-le m x (floats.T_from_false _ a) (floats.T_from_false _ e) (floats.T_from_false _ l)))
+
   pub takes_by_order : is_nan m ≡ false → is_nan x ≡ false → is_lt (total_cmp x m) ≡ true → x ≡ lesser_of m x
   takes_by_order a b h = sym (lesser_of_right m x (total_less_is x m (floats.T_from_false _ b) (floats.T_from_false _ a) ∙ h))
 
   pub keeps_by_order : is_nan m ≡ false → is_nan x ≡ false → is_lt (total_cmp x m) ≡ false → m ≡ lesser_of m x
   keeps_by_order a b h = sym (lesser_of_left m x (total_less_is x m (floats.T_from_false _ b) (floats.T_from_false _ a) ∙ h))
+
+  -- m is at most x, so neither is a NaN
+  pub numbers : le m x ≡ true → (is_nan m ≡ false) × (is_nan x ≡ false)
+  numbers h = let l = floats.T_from_true _ h in (not_nan m (floats.le_left m x l), not_nan x (floats.le_right m x l))

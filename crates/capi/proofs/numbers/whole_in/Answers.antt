@@ -1,5 +1,5 @@
 -- `capi::numbers::whole_in` meets its contract: what is in range is cut off to 64 bits and to 32 alike.
-use Rattle.std.proofs.Common.{◌≡◌, ℕ, sym, ◌∙◌, arith, rules}
+use Rattle.std.proofs.Common.{◌≡◌, sym, ◌∙◌, arith, rules}
 use Rattle.std.specs.Float.Ieee.{to_unsigned}
 use Rattle.vectors.proofs.Floats.{whole_in_lem}
 use Rattle.capi.specs.Numbers.{whole_in}

@@ -1,5 +1,6 @@
 -- `vectors::rows::row_descending` meets its contract.
 use Rattle.std.proofs.Common.{◌≡◌, sym, ◌∙◌, length, arith, ◌≤◌, ◌+◌, ◌-◌, ◌<◌, take, drop, leb-true, leb-false}
+use Rattle.std.proofs.lemmas.Grind.{common_steps}
 use Rattle.std.proofs.lemmas.Iterator.{YieldsList-from_zip, YieldsList-from_slice}
 use Rattle.std.proofs.lemmas.Iterator.Adapters.{YieldsList-from_rev_slice}
 use Rattle.std.specs.Float.Ieee.{of_bits}
@@ -15,7 +16,7 @@ returns-then-fits g c =
     let n = g.row.N in
     let e : length a.w ≡ n = omega arith in
     let h : a.k + n ≤ length a.v.now = leb-true _ _ (sym c.if-fits.ensures) in
-    c.total.ensures _ (YieldsList-from_zip (YieldsList-from_slice a.w cc) (YieldsList-from_rev_slice (take (a.k + n - a.k) (drop a.k a.v.now)) cc)).runs
+    c.total.ensures _ (YieldsList-from_zip (YieldsList-from_slice a.w (grind (arith, common_steps))) (YieldsList-from_rev_slice (take (a.k + n - a.k) (drop a.k a.v.now)) (grind (arith, common_steps)))).runs
     ∙ sym (rw (e, numbers_inside a.k n a.v.now h))
 
 pub returns : goal.returns
